@@ -1,0 +1,9 @@
+pub mod Bools
+pub mod Counting
+pub mod Search
+pub mod Numbers
+pub mod Pigeon
+pub mod Frame
+pub mod Bits
+pub mod Map
+pub mod Change

@@ -1,0 +1,5 @@
+pub mod Count
+pub mod Wiring
+pub mod Frame
+pub mod Map
+pub mod Change
