@@ -1,6 +1,6 @@
 -- What the frame's leaves give, for every input, in the terms of the wiring. Assumes nothing.
 use Prim.Native.Nat.{ℕ}
-use mathlib.Core.Bool.{Bool, _&&_, cond}
+use mathlib.Core.Bool.{_&&_, cond}
 use mathlib.Core.List.{List}
 use lib.Dec.{ltb, leb}
 use Rattle.wiring.specs.Wiring.{earlier, later, fromSide, toSide}

@@ -6,6 +6,9 @@ ghost use Rattle.wiring.specs.Wiring.{sideSum};
 ghost use Rattle.wiring.specs.Frame.{four};
 ghost use Rattle.wiring.specs.Map.{closedIn, withClosed};
 ghost use Rattle.frame.specs.Leaves.{countList, mapBytes, sidesOf, sorted, terminalsOf};
+ghost use Rattle.frame.specs.Tests.{sizeTest, firstOver};
+
+use answers::{Answer, Side};
 
 // How many nets of each type.
 pub struct Counts {
@@ -15,6 +18,12 @@ pub struct Counts {
     pub n4: u16,
     pub n5: u16,
     pub n6: u16,
+}
+
+// The first side that is asked for more nets than it has terminals, and its sum; or there is none.
+pub enum Over {
+    Above(Side, u32),
+    Nowhere,
 }
 
 // The two sides that a type joins, the earlier one first; or there is no such type.
@@ -58,6 +67,43 @@ pub fn side_sum(counts: Counts, side: usize) -> u32
         4 => sum_of(counts.n2, counts.n5, counts.n6),
         _ => 0,
     }
+}
+
+// The first overfull side, in the order L, T, R, B.
+pub fn first_over(size: u16, counts: Counts) -> Over
+    ensures { λ r. ⌜ r ≡ firstOver size (countList counts) ⌝ }
+{
+    let most = size as u32;
+    let left = side_sum(counts, 1);
+    if most < left {
+        return Over::Above(Side::Left, left);
+    }
+    let top = side_sum(counts, 2);
+    if most < top {
+        return Over::Above(Side::Top, top);
+    }
+    let right = side_sum(counts, 3);
+    if most < right {
+        return Over::Above(Side::Right, right);
+    }
+    let bottom = side_sum(counts, 4);
+    if most < bottom {
+        return Over::Above(Side::Bottom, bottom);
+    }
+    Over::Nowhere
+}
+
+// Is the size served?
+pub fn test_size(size: u16) -> Answer
+    ensures { λ r. ⌜ r ≡ sizeTest size ⌝ }
+{
+    if size == 0 {
+        return Answer::Size(size);
+    }
+    if 64 < size {
+        return Answer::Size(size);
+    }
+    Answer::Done
 }
 
 // The bytes of a map of a frame of this size.
