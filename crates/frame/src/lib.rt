@@ -2,13 +2,14 @@
 // Sides, types and positions count from 1, relay numbers from 0.
 ghost use mathlib.Core.Path.{_≡_};
 ghost use Prim.Native.Nat.{_+_};
+ghost use lib.ListN.{getD};
 ghost use Rattle.wiring.specs.Wiring.{sideSum};
 ghost use Rattle.wiring.specs.Frame.{four};
 ghost use Rattle.wiring.specs.Map.{closedIn, withClosed};
 ghost use Rattle.frame.specs.Leaves.{countList, mapBytes, sidesOf, sorted, terminalsOf};
 ghost use Rattle.frame.specs.Tests.{sizeTest, firstOver};
-
-use answers::{Answer, Side};
+use answers::Answer;
+use answers::Side;
 
 // How many nets of each type.
 pub struct Counts {
@@ -47,6 +48,21 @@ pub struct Terminal {
 pub enum Terminals {
     Joined(Terminal, Terminal),
     Nothing,
+}
+
+// One of the six counts, by its place from 0 on: that of type c stands at c - 1. Past them there is 0.
+pub fn count_at(counts: Counts, place: usize) -> u16
+    ensures { λ r. ⌜ r ≡ getD (countList counts) place 0 ⌝ }
+{
+    match place {
+        0 => counts.n1,
+        1 => counts.n2,
+        2 => counts.n3,
+        3 => counts.n4,
+        4 => counts.n5,
+        5 => counts.n6,
+        _ => 0,
+    }
 }
 
 // In 32 bits: 65535 + 1 is 65536.

@@ -1,4 +1,5 @@
 pub mod Bools
+pub mod Lists
 pub mod Counting
 pub mod Search
 pub mod Numbers
@@ -6,4 +7,7 @@ pub mod Pigeon
 pub mod Frame
 pub mod Bits
 pub mod Map
+pub mod Closing
 pub mod Change
+pub mod Check
+pub mod Marks

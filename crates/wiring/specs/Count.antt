@@ -1,6 +1,6 @@
 -- How many numbers pass a test, sums, and the first number that passes. A test is a function to Bool. Assumes nothing.
 use Prim.Native.Nat.{ℕ, zero, suc, _+_}
-use mathlib.Core.Bool.{Bool, true, false, cond}
+use mathlib.Core.Bool.{Bool, true, false, cond, _||_}
 
 -- 1 for a test that passes, 0 for one that fails
 abbrev pub one : Bool → ℕ
@@ -24,3 +24,8 @@ sumTo (suc m) f = sumTo m f + f (suc m)
 unfoldable pub firstFrom : ℕ → ℕ → (ℕ → Bool) → ℕ
 firstFrom i zero test = i
 firstFrom i (suc m) test = cond (test i) i (firstFrom (suc i) m test)
+
+-- some number below m passes the test
+unfoldable pub anyBelow : ℕ → (ℕ → Bool) → Bool
+anyBelow zero test = false
+anyBelow (suc m) test = test m || anyBelow m test

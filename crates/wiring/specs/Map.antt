@@ -2,7 +2,7 @@
 use Prim.Native.Nat.{ℕ, _+_, _*_, _-_, _/_, _%_, _^_, _≤_, _<_}
 use mathlib.Core.Path.{_≡_}
 use mathlib.Core.Bool.{Bool, false}
-use mathlib.Core.List.{List}
+use mathlib.Core.List.{List, [], _∷_}
 use lib.Dec.{eqb}
 use lib.ListN.{length, getD, set}
 use lib.Bits.{bitOr}
@@ -32,3 +32,8 @@ withClosed m k = set m (k / 8) (bitOr (getD m (k / 8) 0) (2 ^ (k % 8)))
 
 unfoldable pub withOpen : List ℕ → ℕ → List ℕ
 withOpen m k = set m (k / 8) (getD m (k / 8) 0 - 2 ^ (k % 8))
+
+-- the map with every relay of a list closed, one after the other
+unfoldable pub closeAll : List ℕ → List ℕ → List ℕ
+closeAll m [] = m
+closeAll m (k ∷ ks) = closeAll (withClosed m k) ks

@@ -1,0 +1,99 @@
+-- Every number that comes back fits 32 bits, whatever is handed in. Assumes nothing.
+use Prim.Native.Nat.{ℕ, _*_, _<_}
+use mathlib.Core.Path.{_≡_, refl}
+use mathlib.Core.Bool.{Bool, true, false, cond, _&&_}
+use mathlib.Core.List.{List}
+use native.Mathlib.Omega.{arith}
+use lib.Dec.{eqb, ltb, leb}
+use lib.ListN.{length}
+use borrow.Author.Tests.{ltb-true, leb-true}
+use Rattle.answers.specs.declared.Side.{Side}
+use Rattle.answers.specs.declared.Side.the-variants.{Left, Top, Right, Bottom}
+use Rattle.answers.specs.declared.Answer.{Answer}
+use Rattle.answers.specs.declared.Answer.the-variants.{Done, Size, Room, Spare, Shared, Count}
+use Rattle.answers.specs.Table.{numberOf}
+use Rattle.answers.specs.Lent.{isDone, andThen, roomFor}
+use Rattle.wiring.specs.Wiring.{sideSum}
+use Rattle.wiring.specs.Frame.{four, frame}
+use Rattle.wiring.specs.Map.{closedIn}
+use Rattle.wiring.specs.Check.{spareSet, clashAt, wrongType}
+use Rattle.wiring.proofs.Frame.{four-sums}
+use Rattle.frame.specs.declared.Counts.{Counts}
+use Rattle.frame.specs.declared.Over.{Over}
+use Rattle.frame.specs.declared.Over.the-variants.{Above, Nowhere}
+use Rattle.frame.specs.Leaves.{countList, mapBytes}
+use Rattle.frame.specs.Tests.{sizeTest, firstOver, overfull, sumAbove}
+use Rattle.router.specs.Router.{routeAnswer}
+use Rattle.map_check.specs.Check.{formTest, sharedTest, countsTest, sumsTest, closedTest, checkMap}
+
+-- the answer's number fits
+abbrev pub Fits : Answer → Type 0
+Fits a = numberOf a < 4294967296
+
+-- counts as they are handed in
+pub record Small (n : Counts) : Type 0 where
+  pub s1 : n .n1 < 65536
+  pub s2 : n .n2 < 65536
+  pub s3 : n .n3 < 65536
+  pub s4 : n .n4 < 65536
+  pub s5 : n .n5 < 65536
+  pub s6 : n .n6 < 65536
+
+cond-fits : (t : Bool) (a b : Answer) → (t ≡ true → Fits a) → Fits b → Fits (cond t a b)
+cond-fits true a b f g = f refl
+cond-fits false a b f g = g
+
+then-fits : (a b : Answer) → Fits a → Fits b → Fits (andThen a b)
+then-fits a b f g = cond-fits (isDone a) b a (λ e. g) f
+
+size-fits : (W : ℕ) → W < 65536 → Fits (sizeTest W)
+unfolding sizeTest
+size-fits W h = cond-fits (ltb 0 W && leb W 64) Done (Size W) (λ e. omega arith) (omega arith)
+
+-- an overfull side and its sum
+over-fits : (W : ℕ) (n : Counts) → Small n → Fits (overfull (firstOver W (countList n)))
+unfolding firstOver
+over-fits W n h =
+    go _ (omega (arith, four-sums (countList n) .0)) _ (omega (arith, four-sums (countList n) .1)) _ (omega (arith, four-sums (countList n) .2)) _ (omega (arith, four-sums (countList n) .3))
+    (ltb W (sideSum four (countList n) 1)) (ltb W (sideSum four (countList n) 2)) (ltb W (sideSum four (countList n) 3)) (ltb W (sideSum four (countList n) 4))
+  where
+    go : (a : ℕ) → a < 4294967296 → (b : ℕ) → b < 4294967296 → (c : ℕ) → c < 4294967296 → (d : ℕ) → d < 4294967296 → (t u v w : Bool)
+        → Fits (overfull (cond t (Above Left a) (cond u (Above Top b) (cond v (Above Right c) (cond w (Above Bottom d) Nowhere)))))
+    go a p b q c r d s true u v w = p
+    go a p b q c r d s false true v w = q
+    go a p b q c r d s false false true w = r
+    go a p b q c r d s false false false true = s
+    go a p b q c r d s false false false false = omega arith
+
+side-fits : (o : Over) → Fits (sumAbove o)
+side-fits (Above Left sum) = omega arith
+side-fits (Above Top sum) = omega arith
+side-fits (Above Right sum) = omega arith
+side-fits (Above Bottom sum) = omega arith
+side-fits Nowhere = omega arith
+
+pub route-fits : (W : ℕ) (n : Counts) (room : List ℕ) → W < 65536 → Small n → Fits (routeAnswer W n room)
+unfolding routeAnswer
+route-fits W n room h s =
+    then-fits (sizeTest W) _ (size-fits W h) (then-fits (roomFor (mapBytes W) room) _ (cond-fits (ltb (length room) (mapBytes W)) (Room (mapBytes W)) Done (λ e. omega arith) (omega arith)) (over-fits W n s))
+
+module _ (W : ℕ) (m : List ℕ) (h : W < 65536) where
+  form-fits : Fits (formTest W m)
+  unfolding formTest
+  form-fits = cond-fits (eqb (length m) (mapBytes W)) _ _ (λ e. cond-fits (spareSet (frame W .relays) m) Spare Done (λ d. omega arith) (omega arith)) (omega arith)
+
+  shared-fits : Fits (sharedTest W m)
+  unfolding sharedTest
+  shared-fits = let k = clashAt (frame W) (closedIn m) in cond-fits (ltb k (6 * W)) (Shared k) Done (λ e. omega (arith, ltb-true k (6 * W) e)) (omega arith)
+
+  closed-fits : Fits (closedTest W m)
+  unfolding closedTest
+  closed-fits = then-fits (sizeTest W) _ (size-fits W h) (then-fits (formTest W m) (sharedTest W m) form-fits shared-fits)
+
+  counts-fits : (n : List ℕ) → Fits (countsTest W n m)
+  unfolding countsTest
+  counts-fits n = let c = wrongType (frame W) n (closedIn m) in cond-fits (leb c 6) (Count c) Done (λ e. omega (arith, leb-true c 6 e)) (omega arith)
+
+  pub check-fits : (n : List ℕ) → Fits (checkMap W n m)
+  unfolding checkMap
+  check-fits n = then-fits (closedTest W m) _ closed-fits (then-fits (countsTest W n m) (sumsTest W n) (counts-fits n) (side-fits (firstOver W n)))

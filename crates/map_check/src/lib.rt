@@ -1,0 +1,154 @@
+// The map check: does a map carry a job? It names the first fault, in the order 1, 2, 11, 12, 13, 14, and writes nothing.
+ghost use mathlib.Core.Path.{_≡_};
+ghost use Prim.Native.Nat.{_≤_};
+ghost use Rattle.wiring.specs.Wiring.{closedOf};
+ghost use Rattle.wiring.specs.Frame.{frame};
+ghost use Rattle.wiring.specs.Map.{closedIn};
+ghost use Rattle.wiring.specs.Check.{clashAt};
+ghost use Rattle.frame.specs.Leaves.{countList};
+ghost use Rattle.map_check.specs.Check.{formTest, countsTest, sumsTest, closedTest, checkMap};
+ghost use Rattle.map_check.specs.Marks.{Markable, isMarked, withMark};
+use answers::Answer;
+use frame::Counts;
+use frame::Over;
+use frame::Terminal;
+use frame::Terminals;
+
+// Codes 2 and 11: the map's length and its spare bits.
+pub fn test_form(size: u16, map: &[u8]) -> Answer
+    ensures { λ r. ⌜ r ≡ formTest size (now (map .entry)) ⌝ }
+{
+    let needed = frame::map_length(size);
+    if map.len() != needed {
+        return Answer::Room(needed);
+    }
+    let mut k = 6 * (size as usize);
+    while k < 8 * needed {
+        if frame::is_closed(map, k) {
+            return Answer::Spare;
+        }
+        k += 1;
+    }
+    Answer::Done
+}
+
+// Is the terminal marked? The marks are one word for each side, with bit p - 1 for position p.
+fn is_marked(marks: [u64; 4], at: Terminal) -> bool
+    requires { ⌜ Markable at ⌝ }
+    ensures { λ r. ⌜ r ≡ isMarked marks (at .side) (at .position) ⌝ }
+{
+    (marks[at.side - 1] >> (at.position - 1)) & 1 == 1
+}
+
+// The marks with the terminal marked too.
+fn mark(marks: [u64; 4], at: Terminal) -> [u64; 4]
+    requires { ⌜ Markable at ⌝ }
+    ensures { λ r. ⌜ r ≡ withMark marks (at .side) (at .position) ⌝ }
+{
+    let mut out = marks;
+    let i = at.side - 1;
+    out[i] = out[i] | (1 << (at.position - 1));
+    out
+}
+
+// The lowest closed relay that shares a terminal with a lower closed one; the number of relays if there is none. One pass by
+// rising number: a relay shares a terminal exactly if one of its own is marked by then.
+fn first_clash(size: usize, map: &[u8]) -> usize
+    requires { ⌜ size ≤ 64 ⌝ }
+    ensures { λ r. ⌜ r ≡ clashAt (frame size) (closedIn (now (map .entry))) ⌝ }
+{
+    let mut marks = [0u64; 4];
+    let mut k: usize = 0;
+    while k < 6 * size {
+        if frame::is_closed(map, k) {
+            // Every relay below 6 * size has its terminals: the else is never taken.
+            let Terminals::Joined(from, to) = frame::relay_terminals(size, k) else {
+                return k;
+            };
+            if is_marked(marks, from) {
+                return k;
+            }
+            if is_marked(marks, to) {
+                return k;
+            }
+            marks = mark(mark(marks, to), from);
+        }
+        k += 1;
+    }
+    k
+}
+
+// Codes 1, 2, 11 and 12: may the map be closed, whatever its job?
+pub fn test_closed(size: u16, map: &[u8]) -> Answer
+    ensures { λ r. ⌜ r ≡ closedTest size (now (map .entry)) ⌝ }
+{
+    let served = frame::test_size(size);
+    if answers::code(served) != 0 {
+        return served;
+    }
+    let formed = test_form(size, map);
+    if answers::code(formed) != 0 {
+        return formed;
+    }
+    let k = first_clash(size as usize, map);
+    if k < 6 * (size as usize) {
+        return Answer::Shared(k as u16);
+    }
+    Answer::Done
+}
+
+// The number of closed relays of a type: its numbers stand together.
+fn closed_of(size: usize, map: &[u8], kind: usize) -> usize
+    requires { ⌜ (size ≤ 65535) × (1 ≤ kind) × (kind ≤ 6) ⌝ }
+    ensures { λ r. ⌜ r ≡ closedOf (frame size) (closedIn (now (map .entry))) kind ⌝ }
+{
+    let base = (kind - 1) * size;
+    let mut n: usize = 0;
+    let mut i: usize = 0;
+    while i < size {
+        if frame::is_closed(map, base + i) {
+            n += 1;
+        }
+        i += 1;
+    }
+    n
+}
+
+// Code 13: the closed relays of each type against the counts.
+pub fn test_counts(size: u16, counts: Counts, map: &[u8]) -> Answer
+    ensures { λ r. ⌜ r ≡ countsTest size (countList counts) (now (map .entry)) ⌝ }
+{
+    let mut kind: usize = 1;
+    while kind <= 6 {
+        if closed_of(size as usize, map, kind) != frame::count_at(counts, kind - 1) as usize {
+            return Answer::Count(kind as u16);
+        }
+        kind += 1;
+    }
+    Answer::Done
+}
+
+// Code 14: the side sums against the size.
+pub fn test_sums(size: u16, counts: Counts) -> Answer
+    ensures { λ r. ⌜ r ≡ sumsTest size (countList counts) ⌝ }
+{
+    match frame::first_over(size, counts) {
+        Over::Above(side, _) => Answer::SumAbove(side),
+        Over::Nowhere => Answer::Done,
+    }
+}
+
+// Does the map carry the job?
+pub fn check_map(size: u16, counts: Counts, map: &[u8]) -> Answer
+    ensures { λ r. ⌜ r ≡ checkMap size (countList counts) (now (map .entry)) ⌝ }
+{
+    let closed = test_closed(size, map);
+    if answers::code(closed) != 0 {
+        return closed;
+    }
+    let counted = test_counts(size, counts, map);
+    if answers::code(counted) != 0 {
+        return counted;
+    }
+    test_sums(size, counts)
+}

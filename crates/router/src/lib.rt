@@ -1,0 +1,173 @@
+// The router: six counts to a relay map in a lent room, by the written choice rule.
+ghost use mathlib.Core.Path.{_≡_};
+ghost use mathlib.Core.Bool.{true};
+ghost use mathlib.Core.List.{_++_, map};
+ghost use Prim.Native.Nat.{_+_, _*_, _≤_, _<_};
+ghost use lib.ListN.{length, take, drop, replicate};
+ghost use Rattle.wiring.specs.Wiring.{nets};
+ghost use Rattle.wiring.specs.Frame.{relay};
+ghost use Rattle.wiring.specs.Map.{withClosed, closeAll};
+ghost use Rattle.frame.specs.Leaves.{countList};
+ghost use Rattle.frame.specs.Tests.{overfull};
+ghost use Rattle.loads.specs.Table.{table};
+ghost use Rattle.loads.specs.Load.{within};
+ghost use Rattle.loads.specs.Seat.{seats};
+ghost use Rattle.router.specs.Route.{lowHigh, spread, centre, relaysFor};
+ghost use Rattle.router.specs.Router.{routeAnswer, routeRoom};
+ghost use Rattle.router.specs.Seated.{SeatedRow, Nets};
+use answers::Answer;
+use frame::Counts;
+use frame::Over;
+
+// The nets of a row, by their types, and their seating. It is kept while the row stays.
+struct Seated {
+    types: [u8; 4],
+    nets: usize,
+    seating: u64,
+}
+
+// The nets of row q, seated.
+fn seat_row(rows: &[u8; 336], q: usize) -> Seated
+    requires { ⌜ (now rows ≡ table) × (q < 56) ⌝ }
+    ensures { λ r. ⌜ SeatedRow q r ⌝ }
+{
+    let mut types = [0u8; 4];
+    let nets = loads::nets_of(rows, q, &mut types);
+    let seating = loads::seat(&types[..nets]);
+    Seated {
+        types,
+        nets,
+        seating,
+    }
+}
+
+// The seating of row `next`, where that of row q is at hand.
+fn seat_next(rows: &[u8; 336], q: usize, next: usize, kept: Seated) -> Seated
+    requires { ⌜ (now rows ≡ table) × (next < 56) × SeatedRow q kept ⌝ }
+    ensures { λ r. ⌜ SeatedRow next r ⌝ }
+{
+    if next == q {
+        return kept;
+    }
+    seat_row(rows, next)
+}
+
+// Closes the relay of a net of a type that is seated low (0) or high (1) in the block with low position p.
+fn close_net(room: &mut [u8], w: usize, p: usize, kind: u8, high: u64)
+    requires { ⌜ (1 ≤ kind) × (kind ≤ 6) × (high < 2) × (1 ≤ p) × (p ≤ w) × (w ≤ 64) ⌝ }
+    ensures { λ _. ⌜ now (room .exit) ≡ withClosed (now (room .entry)) (relay w kind (lowHigh w p (high + 1))) ⌝ }
+{
+    let first = (kind as usize - 1) * w;
+    if high == 0 {
+        frame::close_relay(room, first + (p - 1));
+    } else {
+        frame::close_relay(room, first + (w - p));
+    }
+}
+
+// Closes the relays of the block with low position p.
+fn close_block(room: &mut [u8], w: usize, p: usize, seated: Seated)
+    requires { ⌜ Nets seated × (1 ≤ p) × (p ≤ w) × (w ≤ 64) ⌝ }
+    ensures { λ _. ⌜ now (room .exit) ≡ closeAll (now (room .entry)) (map (spread w p) (seats (take (seated .nets) (seated .types)) (seated .seating))) ⌝ }
+{
+    let types = seated.types;
+    let nets = seated.nets;
+    let mut j = 0;
+    while j < nets {
+        let high = (seated.seating >> (nets - 1 - j)) % 2;
+        close_net(room, w, p, types[j], high);
+        j += 1;
+    }
+}
+
+// Closes the relay of a type at position p if there is a net for it.
+fn close_one(room: &mut [u8], w: usize, p: usize, n: Counts, kind: usize)
+    requires { ⌜ (within 1 n ≡ true) × (1 ≤ kind) × (kind ≤ 6) × (1 ≤ p) × (p ≤ w) × (w ≤ 64) ⌝ }
+    ensures { λ _. ⌜ now (room .exit) ≡ closeAll (now (room .entry)) (replicate (nets (countList n) kind) (relay w kind p)) ⌝ }
+{
+    if frame::count_at(n, kind - 1) == 1 {
+        frame::close_relay(room, (kind - 1) * w + (p - 1));
+    }
+}
+
+// Closes the relays of the centre, at position p.
+fn close_centre(room: &mut [u8], w: usize, p: usize, n: Counts)
+    requires { ⌜ (within 1 n ≡ true) × (1 ≤ p) × (p ≤ w) × (w ≤ 64) ⌝ }
+    ensures { λ _. ⌜ now (room .exit) ≡ closeAll (now (room .entry)) (centre w p n) ⌝ }
+{
+    close_one(room, w, p, n, 1);
+    close_one(room, w, p, n, 2);
+    close_one(room, w, p, n, 3);
+    close_one(room, w, p, n, 4);
+    close_one(room, w, p, n, 5);
+    close_one(room, w, p, n, 6);
+}
+
+// Closes the relays of all blocks, from the outside in, and of the centre.
+fn close_all(room: &mut [u8], w: usize, counts: Counts)
+    requires { ⌜ (within w counts ≡ true) × (w ≤ 64) ⌝ }
+    ensures { λ _. ⌜ now (room .exit) ≡ closeAll (now (room .entry)) (relaysFor w counts) ⌝ }
+{
+    let rows = loads::load_table();
+    let mut n = counts;
+    let mut r = w;
+    let mut p = 1;
+    let mut q = 0;
+    let mut seated = seat_row(&rows, 0);
+    while 2 <= r {
+        r -= 2;
+        let next = loads::next_row(&rows, n, r as u16, q);
+        seated = seat_next(&rows, q, next, seated);
+        q = next;
+        close_block(room, w, p, seated);
+        n = loads::less(n, loads::row_at(&rows, q));
+        p += 1;
+    }
+    if r == 1 {
+        close_centre(room, w, p, n);
+    }
+}
+
+// Opens all relays of a map of so many bytes.
+fn clear(room: &mut [u8], bytes: usize)
+    requires { ⌜ bytes ≤ length (now room) ⌝ }
+    ensures { λ _. ⌜ now (room .exit) ≡ replicate bytes 0 ++ drop bytes (now (room .entry)) ⌝ }
+{
+    let mut i = 0;
+    while i < bytes {
+        room[i] = 0;
+        i += 1;
+    }
+}
+
+// The refusal of an overfull side; done where there is none.
+fn overfull_answer(over: Over) -> Answer
+    ensures { λ r. ⌜ r ≡ overfull over ⌝ }
+{
+    match over {
+        Over::Above(side, sum) => Answer::Overfull(side, sum),
+        Over::Nowhere => Answer::Done,
+    }
+}
+
+// Picks the relays for a job and writes their map at the start of the room.
+pub fn route(size: u16, counts: Counts, room: &mut [u8]) -> Answer
+    ensures { λ r. ⌜ r ≡ routeAnswer size counts (now (room .entry)) ⌝ }
+    ensures { λ _. ⌜ now (room .exit) ≡ routeRoom size counts (now (room .entry)) ⌝ }
+{
+    let served = frame::test_size(size);
+    let Answer::Done = served else {
+        return served;
+    };
+    let bytes = frame::map_length(size);
+    if room.len() < bytes {
+        return Answer::Room(bytes);
+    }
+    let over = frame::first_over(size, counts);
+    let Over::Nowhere = over else {
+        return overfull_answer(over);
+    };
+    clear(room, bytes);
+    close_all(room, size as usize, counts);
+    Answer::Done
+}
