@@ -1,5 +1,5 @@
 /*
- * The relay frame of an ultrasonic gauge bench: router and map check.
+ * The relay frame of an ultrasonic gauge bench: router, map check and records.
  *
  * Every call takes every input there can be. It gives a code (the result) and a number (through the last
  * pointer, always written; 0 with FRAME_DONE). A refusal leaves lent room as it came. Nothing has to be
@@ -24,9 +24,11 @@
 extern "C" {
 #endif
 
-/* The largest size, and the largest map in bytes. */
+/* The largest size, the largest map and the longest records, in bytes. */
 #define FRAME_MOST_SIZE 64
 #define FRAME_MOST_MAP 48
+#define FRAME_JOB_RECORD 19
+#define FRAME_MOST_PATTERN_RECORD 70
 
 /* The codes, and the number that comes with each. */
 enum frame_code {
@@ -61,6 +63,36 @@ uint32_t frame_route(uint16_t size, uint16_t n1, uint16_t n2, uint16_t n3, uint1
  */
 uint32_t frame_check_map(uint16_t size, uint16_t n1, uint16_t n2, uint16_t n3, uint16_t n4, uint16_t n5,
                          uint16_t n6, const uint8_t *map, size_t map_len, uint32_t *number);
+
+/*
+ * Reads a job record. On FRAME_DONE *size and counts[0] to counts[5] are n1 to n6 of the job; on a refusal
+ * they are 0. Codes: 7, 8, 9, 1 as the fields come from the left, then 10.
+ */
+uint32_t frame_read_job(const uint8_t *record, size_t record_len, uint16_t *size, uint16_t counts[6],
+                        uint32_t *number);
+
+/*
+ * Writes a job record of FRAME_JOB_RECORD bytes into the room. Past it the room is unchanged; on a refusal
+ * all of it is. Codes in this order: 1, 2. Counts are not looked at.
+ */
+uint32_t frame_write_job(uint16_t size, uint16_t n1, uint16_t n2, uint16_t n3, uint16_t n4, uint16_t n5,
+                         uint16_t n6, uint8_t *room, size_t room_len, uint32_t *number);
+
+/*
+ * Reads a pattern record. On FRAME_DONE the map stands in the record, *map_len bytes from record + *map_at
+ * on, and carries the job that is given back. On a refusal *size, all counts, *map_at and *map_len are 0.
+ * Codes: 7, 8, 9, 1 as the fields come from the left, then 10, then the map check's 11, 12, 13, 14.
+ */
+uint32_t frame_read_pattern(const uint8_t *record, size_t record_len, uint16_t *size, uint16_t counts[6],
+                            size_t *map_at, size_t *map_len, uint32_t *number);
+
+/*
+ * Writes a pattern record of 22 + m bytes, at most FRAME_MOST_PATTERN_RECORD, into the room. Past it the room
+ * is unchanged; on a refusal all of it is. Codes in this order: the map check's, then 2 with the record's length.
+ */
+uint32_t frame_write_pattern(uint16_t size, uint16_t n1, uint16_t n2, uint16_t n3, uint16_t n4, uint16_t n5,
+                             uint16_t n6, const uint8_t *map, size_t map_len, uint8_t *room, size_t room_len,
+                             uint32_t *number);
 
 #ifdef __cplusplus
 }

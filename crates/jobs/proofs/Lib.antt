@@ -1,0 +1,3 @@
+pub mod Heads
+pub mod RoundTrip
+pub mod Ways

@@ -1,0 +1,68 @@
+-- `jobs::write_job` meets its contract: the test and the room refuse, or the head is put at the start. Assumes nothing.
+use mathlib.Core.Path.{_≡_, sym, _∙_}
+use native.Mathlib.Omega.{arith}
+use denote.Ref.{now}
+use Rattle.answers.specs.declared.Answer.the-variants.{Done}
+use Rattle.frame.specs.Tests.{sizeTest}
+use Rattle.frame.proofs.Tests.{size-is}
+use Rattle.answers.proofs.Laws.{else-refused, is-done}
+use Rattle.fields.proofs.Lent.{test-refuses, room-refuses, all-put}
+use Rattle.jobs.specs.Format.{jobRecord}
+use Rattle.jobs.specs.Write.{jobAnswer, jobRoom}
+use borrow.Author.Needs.{needs}
+use Rattle.jobs.proofs.write_job.Statement.{statement}
+use Rattle.jobs.proofs.write_job.Tie as tie
+
+test-size-requires : tie.Need-test-size-requires
+test-size-requires c κs = search needs
+
+enum-told : tie.Need-enum-told
+enum-told c = search needs
+
+returns : tie.Need-returns
+unfolding jobAnswer jobRoom
+returns c =
+    let start = c .before .before .before .args in
+    rw (← c .before .test-size .ensures) (test-refuses (c .before .test-size .result) (jobRecord (start .job)) (now (start .room)) (else-refused (c .before .test-size .result) (c .match .keys2)))
+
+-- the size was served
+served : (c : tie.After-enum-told) → sizeTest (c .before .before .before .before .args .job .size) ≡ Done
+served c = sym (c .before .before .test-size .ensures) ∙ c .enum-told .given .1
+
+head-length-requires : tie.Need-head-length-requires
+head-length-requires c κs = search needs
+
+returns-2 : tie.Need-returns-2
+unfolding jobAnswer jobRoom
+returns-2 c =
+    let told = c .before .before in
+    let start = told .before .before .before .before .args in
+    room-refuses (sizeTest (start .job .size)) (jobRecord (start .job)) (now (start .room)) (served told) (c .before .head-length .ensures) (omega arith)
+
+put-head-requires : tie.Need-put-head-requires
+put-head-requires c κs =
+    let told = c .before .before .before in
+    omega (arith, size-is _ (is-done _ (served told)))
+
+same-length : tie.Need-same-length
+same-length c = search needs
+
+returns-3 : tie.Need-returns-3
+unfolding jobAnswer jobRoom
+returns-3 c =
+    let told = c .before .before .before .before .before .before in
+    let start = told .before .before .before .before .args in
+    all-put (sizeTest (start .job .size)) (jobRecord (start .job)) (now (start .room)) (served told) (omega arith) (c .before .before .put-head .ensures)
+
+pub write-job-spec : {M : Type 1} → statement M
+write-job-spec =
+    tie.close
+    (tie.spec
+    test-size-requires
+    enum-told
+    returns
+    head-length-requires
+    returns-2
+    put-head-requires
+    same-length
+    returns-3)

@@ -1,0 +1,32 @@
+-- The scope's two listings, of the worked job record and of no input, byte for byte. Assumes nothing.
+use mathlib.Core.Path.{_≡_, refl}
+use mathlib.Core.List.{[], _∷_}
+use Rattle.wiring.specs.Count.{count, sumTo, firstFrom}
+use Rattle.wiring.specs.Lists.{among, distinct}
+use Rattle.wiring.specs.Frame.{typeIn, placeIn}
+use Rattle.wiring.specs.Map.{closedIn, withClosed, closeAll}
+use Rattle.frame.specs.Tests.{sizeTest, firstOver}
+use Rattle.fields.specs.Read.{fieldAt}
+use Rattle.jobs.specs.Read.{readHead, readJob}
+use Rattle.loads.specs.Table.{table, row}
+use Rattle.loads.specs.Load.{within, atMost, fits, pick, load}
+use Rattle.loads.specs.Seat.{netList, seats, touched, seatFits, seatOf, seating}
+use Rattle.router.specs.Route.{spread, centre, route, relaysFor, mapFor}
+use Rattle.router.specs.Router.{routeAnswer}
+use Rattle.text.specs.Decimal.{decimalIn, decimal}
+use Rattle.listing.specs.Lines.{terminalText, netLine, netLines, sizeLine, mapText, refusedText}
+use Rattle.listing.specs.Listing.{jobText, textOf}
+
+-- SIZE 2 NETS 3, 1 L1 R2, 3 L2 T1, 4 T2 R1
+pub worked-example : textOf (0x01 ∷ 0x00 ∷ 0x01 ∷ 0x02 ∷ 0x02 ∷ 0x00 ∷ 0x0C ∷ 0x00 ∷ 0x01 ∷ 0x00 ∷ 0x00 ∷ 0x00 ∷ 0x01 ∷ 0x00 ∷ 0x01 ∷ 0x00 ∷ 0x00 ∷ 0x00 ∷ 0x00 ∷ [])
+    ≡ 83 ∷ 73 ∷ 90 ∷ 69 ∷ 32 ∷ 50 ∷ 32 ∷ 78 ∷ 69 ∷ 84 ∷ 83 ∷ 32 ∷ 51 ∷ 10
+    ∷ 49 ∷ 32 ∷ 76 ∷ 49 ∷ 32 ∷ 82 ∷ 50 ∷ 10
+    ∷ 51 ∷ 32 ∷ 76 ∷ 50 ∷ 32 ∷ 84 ∷ 49 ∷ 10
+    ∷ 52 ∷ 32 ∷ 84 ∷ 50 ∷ 32 ∷ 82 ∷ 49 ∷ 10 ∷ []
+unfolding textOf jobText mapText sizeLine netLines netLine terminalText refusedText decimal decimalIn readJob readHead fieldAt sizeTest firstOver routeAnswer mapFor relaysFor route centre spread seating seatOf seatFits touched seats netList load pick fits atMost within row table closedIn withClosed closeAll typeIn placeIn among distinct count sumTo firstFrom
+worked-example = refl
+
+-- REFUSED 7 0
+pub no-input : textOf [] ≡ 82 ∷ 69 ∷ 70 ∷ 85 ∷ 83 ∷ 69 ∷ 68 ∷ 32 ∷ 55 ∷ 32 ∷ 48 ∷ 10 ∷ []
+unfolding textOf refusedText decimal decimalIn readJob readHead fieldAt
+no-input = refl

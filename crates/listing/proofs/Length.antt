@@ -1,0 +1,68 @@
+-- Every text fits the room that the lister asks for. Assumes nothing.
+use Prim.Native.Nat.{ℕ, zero, suc, _*_, _≤_, _<_}
+use mathlib.Core.Path.{_≡_, refl}
+use mathlib.Core.Bool.{Bool, true, false, cond}
+use mathlib.Core.List.{List, []}
+use native.Mathlib.Omega.{arith}
+use lib.ListN.{length, replicate, length-append}
+use Rattle.answers.specs.declared.Answer.{Answer}
+use Rattle.answers.specs.Table.{codeOf, numberOf}
+use Rattle.answers.specs.Lent.{isDone}
+use Rattle.wiring.specs.Count.{count}
+use Rattle.wiring.specs.Frame.{typeIn, frame}
+use Rattle.wiring.specs.Map.{closedIn}
+use Rattle.wiring.proofs.Counting.{count-le}
+use Rattle.wiring.proofs.Frame.{frame-proper}
+use Rattle.jobs.specs.declared.Job.{Job}
+use Rattle.jobs.specs.Read.{readJob}
+use Rattle.router.specs.Route.{mapFor}
+use Rattle.router.specs.Router.{routeAnswer}
+use Rattle.router.proofs.Answering.{routed}
+use Rattle.text.proofs.Decimal.{decimal-length, decimal-most}
+use Rattle.listing.specs.Lines.{netLine, netLines, mapText, refusedText}
+use Rattle.listing.specs.Listing.{jobText, textOf, mostText}
+use Rattle.listing.proofs.Lines.{terminal-length, size-length, is-refused, is-map-text}
+
+net-length : (W k : ℕ) → W ≤ 64 → k < 6 * W → length (netLine W k) ≤ 10
+unfolding netLine
+net-length W k w h =
+    let t = frame-proper W .typed k h in
+    let p = frame-proper W .placed k h in
+    simp (length-append, terminal-length)
+    (omega (arith, decimal-length 1 (typeIn W k) (omega arith) (omega arith), decimal-length 2 (frame W .first k) (omega arith) (omega arith), decimal-length 2 (frame W .second k) (omega arith) (omega arith)))
+
+pub nets-length : (W n : ℕ) (m : List ℕ) → W ≤ 64 → n ≤ 6 * W → length (netLines W m n) ≤ 10 * n
+unfolding netLines
+nets-length W zero m w h = omega arith
+nets-length W (suc n) m w h = rw length-append (omega (arith, nets-length W n m w (omega arith), line (closedIn m n)))
+  where
+    line : (b : Bool) → length (cond b (netLine W n) []) ≤ 10
+    line true = net-length W n w h
+    line false = omega arith
+
+pub map-text-length : (W : ℕ) (m : List ℕ) → W ≤ 64 → length (mapText W m) ≤ mostText
+map-text-length W m w =
+    let n : ℕ = count (frame W .relays) (closedIn m) in
+    let c = count-le (frame W .relays) (closedIn m) in
+    omega (arith, is-map-text W n m refl, size-length W n, decimal-length 2 W (omega arith) (omega arith), decimal-length 3 n (omega arith) (omega arith), nets-length W (6 * W) m w (omega arith))
+
+pub refused-text-length : (a : Answer) → length (refusedText a) ≤ mostText
+refused-text-length a = omega (arith, is-refused a (codeOf a) (numberOf a) refl refl, decimal-most (codeOf a), decimal-most (numberOf a))
+
+pub job-text-length : (j : Job) → length (jobText j) ≤ mostText
+unfolding jobText
+job-text-length j = go (isDone (routeAnswer (j .size) (j .counts) (replicate 48 0))) refl
+  where
+    go : (b : Bool) → isDone (routeAnswer (j .size) (j .counts) (replicate 48 0)) ≡ b
+        → length (cond b (mapText (j .size) (mapFor (j .size) (j .counts))) (refusedText (routeAnswer (j .size) (j .counts) (replicate 48 0)))) ≤ mostText
+    go true e = map-text-length (j .size) _ (routed (j .size) (j .counts) (replicate 48 0) e .upto64)
+    go false e = refused-text-length _
+
+-- the text for any bytes
+pub text-length : (s : List ℕ) → length (textOf s) ≤ mostText
+unfolding textOf
+text-length s = go (isDone (readJob s .answer))
+  where
+    go : (b : Bool) → length (cond b (jobText (readJob s .job)) (refusedText (readJob s .answer))) ≤ mostText
+    go true = job-text-length (readJob s .job)
+    go false = refused-text-length (readJob s .answer)

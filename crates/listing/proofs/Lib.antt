@@ -1,0 +1,5 @@
+pub mod Lines
+pub mod Length
+pub mod Texts
+pub mod Ends
+pub mod Examples

@@ -1,0 +1,125 @@
+-- Laws of the lines: their parts, written one after the other, and one relay more. Assumes nothing.
+use Prim.Native.Nat.{ℕ, zero, suc, _+_, _*_, _-_, _≤_, _<_}
+use mathlib.Core.Path.{_≡_, refl, sym}
+use mathlib.Core.Bool.{Bool, true, false}
+use mathlib.Core.List.{List, [], _∷_, _++_, append-nil}
+use native.Mathlib.Omega.{arith}
+use native.Mathlib.Numerals.{add-one}
+use lib.ListN.{length, length-append, List·getD-eq-default}
+use borrow.Author.Tests.{lt-ltb}
+use Rattle.answers.specs.declared.Answer.{Answer}
+use Rattle.answers.specs.Table.{codeOf, numberOf}
+use Rattle.wiring.specs.Count.{count}
+use Rattle.wiring.specs.Wiring.{fromSide, toSide}
+use Rattle.wiring.specs.Frame.{typeIn, placeIn, frame}
+use Rattle.wiring.specs.Map.{closedIn}
+use Rattle.wiring.proofs.Numbers.{type-in}
+use Rattle.wiring.proofs.Frame.{four-row}
+use Rattle.frame.specs.declared.Sorted.the-variants.{Relay, NoRelay}
+use Rattle.frame.specs.declared.Terminal.{Terminal}
+use Rattle.frame.specs.declared.Terminals.the-variants.{Joined, Nothing}
+use Rattle.frame.specs.Leaves.{sorted, terminalsOf}
+use Rattle.text.specs.Decimal.{decimal}
+use Rattle.text.specs.Wrote.{Wrote}
+use Rattle.text.proofs.Stores.{wrote-none, wrote-append}
+use Rattle.listing.specs.Lines.{space, lf, refusedWord, letter, terminalText, netLine, netLines, sizeLine, mapText, refusedText}
+
+-- no side past B
+pub letter-none : (s : ℕ) → 5 ≤ s → 0 ≡ letter s
+letter-none s h = sym (List·getD-eq-default (76 ∷ 84 ∷ 82 ∷ 66 ∷ []) 0 {n = s - 1} (omega arith))
+
+pub terminal-length : (s p : ℕ) → length (terminalText s p) ≡ 1 + length (decimal p)
+unfolding terminalText
+terminal-length s p = omega arith
+
+pub size-length : (W n : ℕ) → length (sizeLine W n) ≡ 5 + (length (decimal W) + (6 + (length (decimal n) + 1)))
+unfolding sizeLine
+size-length W n = simp length-append (omega arith)
+
+-- a refusal's line by its code and number
+pub record IsRefused (a : Answer) (code number : ℕ) : Type 0 where
+  pub line : refusedText a ≡ refusedWord ++ (decimal code ++ (space ∷ decimal number ++ (lf ∷ [])))
+  pub long : length (refusedText a) ≡ 8 + (length (decimal code) + (1 + (length (decimal number) + 1)))
+
+pub is-refused : (a : Answer) (code number : ℕ) → code ≡ codeOf a → number ≡ numberOf a → IsRefused a code number
+unfolding refusedText
+is-refused a code number p q = rw (p, q) (record { line = refl; long = simp length-append (omega arith) })
+
+-- relay k is of type c and joins a and b: its line by these
+pub record IsNet (W k c : ℕ) (a b : Terminal) : Type 0 where
+  pub line : netLine W k ≡ decimal c ++ (space ∷ terminalText (a .side) (a .position) ++ (space ∷ terminalText (b .side) (b .position) ++ (lf ∷ [])))
+  pub long : length (netLine W k) ≡ length (decimal c) + (1 + (length (terminalText (a .side) (a .position)) + (1 + (length (terminalText (b .side) (b .position)) + 1))))
+  pub from : 1 ≤ a .side
+  pub to : 1 ≤ b .side
+
+module _ (W k : ℕ) (h : k < 6 * W) where
+  sorted-there : sorted W k ≡ Relay (typeIn W k) (placeIn W k)
+  unfolding sorted
+  sorted-there = rw (lt-ltb k (6 * W) h)
+
+  terminals-there : terminalsOf W k ≡ Joined (record { side = fromSide (frame W) k; position = frame W .first k }) (record { side = toSide (frame W) k; position = frame W .second k })
+  unfolding terminalsOf
+  terminals-there = rw (lt-ltb k (6 * W) h)
+
+  pub some-relay : sorted W k ≡ NoRelay → ⊥
+  some-relay e = let z : _≡_ {A = ℕ} 0 1 = cc sorted-there in omega arith
+
+  pub some-terminals : terminalsOf W k ≡ Nothing → ⊥
+  some-terminals e = let z : _≡_ {A = ℕ} 0 1 = cc terminals-there in omega arith
+
+  net-there : IsNet W k (typeIn W k) (record { side = fromSide (frame W) k; position = frame W .first k }) (record { side = toSide (frame W) k; position = frame W .second k })
+  unfolding netLine
+  net-there =
+      let t = type-in W 6 k h in
+      let r = four-row (typeIn W k) (t .0) (t .1) in
+      record { line = refl; long = simp length-append (omega arith); from = r .from1; to = r .to1 }
+
+  pub is-net : (c p : ℕ) (a b : Terminal) → sorted W k ≡ Relay c p → terminalsOf W k ≡ Joined a b → IsNet W k c a b
+  is-net c p a b e f =
+      let ec : typeIn W k ≡ c = cc sorted-there in
+      let ea : record { side = fromSide (frame W) k; position = frame W .first k } ≡ a = cc terminals-there in
+      let eb : record { side = toSide (frame W) k; position = frame W .second k } ≡ b = cc terminals-there in
+      rw (← ec, ← ea, ← eb) net-there
+
+-- what is printed of a map, by its number of nets
+pub record IsMapText (W nets : ℕ) (m : List ℕ) : Type 0 where
+  pub text : mapText W m ≡ sizeLine W nets ++ netLines W m (frame W .relays)
+  pub long : length (mapText W m) ≡ length (sizeLine W nets) + length (netLines W m (frame W .relays))
+
+pub is-map-text : (W nets : ℕ) (m : List ℕ) → nets ≡ count (frame W .relays) (closedIn m) → IsMapText W nets m
+unfolding mapText
+is-map-text W nets m p = rw p (record { text = refl; long = simp length-append })
+
+-- one relay more: it is closed, counted and has a line, or it is open
+pub count-closed : (k n r : ℕ) (test : ℕ → Bool) → test k ≡ true → n ≡ count k test → r ≡ n + 1 → r ≡ count (k + 1) test
+unfolding count
+count-closed k n r test t e x = rw (add-one k, t) (omega arith)
+
+pub count-open : (k n r : ℕ) (test : ℕ → Bool) → test k ≡ false → n ≡ count k test → r ≡ n → r ≡ count (k + 1) test
+unfolding count
+count-open k n r test t e x = rw (add-one k, t) (omega arith)
+
+pub nets-none : (W : ℕ) (m : List ℕ) {l : List ℕ} {i : ℕ} → Wrote l i (netLines W m 0) l i
+unfolding netLines
+nets-none W m = wrote-none
+
+pub nets-closed : (W k : ℕ) (m : List ℕ) {l r s : List ℕ} {i j n : ℕ} → closedIn m k ≡ true → Wrote l i (netLines W m k) r j → Wrote r j (netLine W k) s n → Wrote l i (netLines W m (k + 1)) s n
+unfolding netLines
+nets-closed W k m t w v = rw (add-one k, t) (wrote-append w v)
+
+pub nets-open : (W k : ℕ) (m : List ℕ) {l r : List ℕ} {i j : ℕ} → closedIn m k ≡ false → Wrote l i (netLines W m k) r j → Wrote l i (netLines W m (k + 1)) r j
+unfolding netLines
+nets-open W k m t w = rw (add-one k, t, append-nil (netLines W m k)) w
+
+-- a closed relay's line is among all
+nets-mono : (W k n : ℕ) (m : List ℕ) → length (netLines W m k) ≤ length (netLines W m (k + n))
+unfolding netLines
+nets-mono W k zero m = let e : k + 0 ≡ k = omega arith in rw e (omega arith)
+nets-mono W k (suc n) m = let e : k + suc n ≡ suc (k + n) = omega arith in rw (e, length-append) (omega (arith, nets-mono W k n m))
+
+pub nets-room : (W k n : ℕ) (m : List ℕ) → k < n → closedIn m k ≡ true → length (netLines W m k) + length (netLine W k) ≤ length (netLines W m n)
+unfolding netLines
+nets-room W k n m h t =
+    let e : suc k + (n - suc k) ≡ n = omega arith in
+    let s : length (netLines W m (suc k)) ≡ length (netLines W m k) + length (netLine W k) = rw (t, length-append) in
+    omega (arith, rw e at (nets-mono W (suc k) (n - suc k) m))

@@ -1,0 +1,89 @@
+-- Laws of the text by what was read and routed, and of the room that it is made in. Assumes nothing.
+use Prim.Native.Nat.{ℕ, _+_, _≤_, _<_}
+use mathlib.Core.Path.{_≡_, refl, sym, ap, _∙_}
+use mathlib.Core.Bool.{Bool, true, false, cond}
+use mathlib.Core.List.{List, _++_}
+use native.Mathlib.Omega.{arith}
+use lib.Dec.{ltb}
+use lib.ListN.{length, take, drop, replicate, length-append}
+use lib.Seq.{sets-eq, take-at}
+use borrow.Author.Tests.{ltb-false, eq-eqb, ne-eqb, lt-ltb, le-ltb}
+use Rattle.answers.specs.declared.Answer.{Answer}
+use Rattle.answers.specs.declared.Answer.the-variants.{Done, Room}
+use Rattle.answers.specs.Table.{codeOf}
+use Rattle.answers.specs.Lent.{isDone}
+use Rattle.frame.specs.Leaves.{mapBytes}
+use Rattle.jobs.specs.declared.Job.{Job}
+use Rattle.jobs.specs.declared.JobRead.{JobRead}
+use Rattle.jobs.specs.Read.{readJob}
+use Rattle.router.specs.Route.{mapFor}
+use Rattle.router.specs.Router.{routeAnswer, routeRoom}
+use Rattle.router.proofs.Maps.{map-length}
+use Rattle.router.proofs.Answering.{routed}
+use Rattle.text.specs.Wrote.{Wrote}
+use Rattle.listing.specs.declared.Listed.{Listed}
+use Rattle.listing.specs.Lines.{mapText, refusedText}
+use Rattle.listing.specs.Listing.{jobText, textOf, mostText, listed, listedRoom}
+use Rattle.listing.proofs.Length.{text-length}
+
+-- done or not, by the code
+done-by : (a : Answer) (code : ℕ) → code ≡ codeOf a → code ≡ 0 → isDone a ≡ true
+done-by a code q z = eq-eqb (codeOf a) 0 (sym q ∙ z)
+
+not-done-by : (a : Answer) (code : ℕ) → code ≡ codeOf a → (code ≡ 0 → ⊥) → isDone a ≡ false
+not-done-by a code q h = ne-eqb (codeOf a) 0 (λ z. h (q ∙ z))
+
+-- the first n bytes of the room that was lent are the job's map
+pub record Mapped (j : Job) (n : ℕ) (lent : List ℕ) : Type 0 where
+  pub within : n ≤ length lent
+  pub long : n ≡ length (take n lent)
+  pub text : jobText j ≡ mapText (j .size) (take n lent)
+
+module _ (j : Job) (a : Answer) (code : ℕ) (p : a ≡ routeAnswer (j .size) (j .counts) (replicate 48 0)) (q : code ≡ codeOf a) where
+  pub job-refused : (code ≡ 0 → ⊥) → jobText j ≡ refusedText a
+  unfolding jobText
+  job-refused h = rw (← p, not-done-by a code q h)
+
+  pub job-mapped : (n : ℕ) (lent : List ℕ) → code ≡ 0 → n ≡ mapBytes (j .size) → lent ≡ routeRoom (j .size) (j .counts) (replicate 48 0) → Mapped j n lent
+  unfolding jobText
+  job-mapped n lent z e l =
+      let d = done-by a code q z in
+      let r = routed (j .size) (j .counts) (replicate 48 0) (rw p at d) in
+      let m = map-length (j .size) (j .counts) in
+      let rest : List ℕ = drop (mapBytes (j .size)) (replicate 48 0) in
+      let front : take n lent ≡ mapFor (j .size) (j .counts) = ap (take n) (l ∙ r .after) ∙ take-at (mapFor (j .size) (j .counts)) rest n (omega arith) in
+      record {
+        within = omega (arith, ap length (l ∙ r .after), length-append (mapFor (j .size) (j .counts)) rest);
+        long = omega (arith, ap length front);
+        text = rw (← p, d, front);
+      }
+
+module _ (s : List ℕ) (r : JobRead) (code : ℕ) (p : r ≡ readJob s) (q : code ≡ codeOf (r .answer)) where
+  pub text-refused : (code ≡ 0 → ⊥) → textOf s ≡ refusedText (r .answer)
+  unfolding textOf
+  text-refused h = rw (← p, not-done-by (r .answer) code q h)
+
+  pub text-read : code ≡ 0 → textOf s ≡ jobText (r .job)
+  unfolding textOf
+  text-read z = rw (← p, done-by (r .answer) code q z)
+
+module _ (s room : List ℕ) where
+  pub list-short : length room < mostText → (record { answer = Room 3857; len = 0 } ≡ listed s room) × (room ≡ listedRoom s room)
+  unfolding listed listedRoom
+  list-short h = simp (lt-ltb (length room) 3857 h) (refl, refl)
+
+  pub list-done : {m : List ℕ} {j : ℕ} → mostText ≤ length room → Wrote room 0 (textOf s) m j → (record { answer = Done; len = j } ≡ listed s room) × (m ≡ listedRoom s room)
+  unfolding listed listedRoom
+  list-done {m} {j} h w =
+      let z : 0 + length (textOf s) ≡ length (textOf s) = omega arith in
+      let e : m ≡ textOf s ++ drop (length (textOf s)) room = rw z at (w .room ∙ sets-eq (textOf s) room 0 (omega (arith, text-length s))) in
+      simp (le-ltb (length room) 3857 h, w .after, z) (refl, e)
+
+  -- the length that comes back lies within the room
+  pub list-within : (r : Listed) → r ≡ listed s room → r .len ≤ length room
+  unfolding listed
+  list-within r e = rw e (go (ltb (length room) mostText) refl)
+    where
+      go : (b : Bool) → ltb (length room) mostText ≡ b → cond (isDone (cond b (Room mostText) Done)) (length (textOf s)) 0 ≤ length room
+      go true l = omega arith
+      go false l = omega (arith, ltb-false (length room) mostText l, text-length s)

@@ -1,0 +1,81 @@
+-- `listing::put_net` meets its contract. Assumes nothing.
+use mathlib.Core.Path.{sym, _∙_}
+use native.Mathlib.Omega.{arith}
+use borrow.Author.Needs.{needs}
+use Rattle.text.proofs.Stores.{wrote-as, wrote-append}
+use Rattle.listing.proofs.Lines.{IsNet, some-relay, some-terminals, is-net}
+use Rattle.listing.proofs.put_net.Statement.{statement}
+use Rattle.listing.proofs.put_net.Tie as tie
+
+-- the relay that was found
+net : (c : tie.After-earlier)
+    → IsNet (c .before .before .before .before .before .before .before .before .args .size) (c .before .before .before .before .before .before .before .before .args .relay) (c .before .before .before .before .kind .given .0 .0) (c .earlier .given .0 .0) (c .earlier .given .0 .1 .0)
+net c =
+    is-net _ _ (c .before .before .before .before .before .before .before .before .pre .0) _ _ _ _
+    (sym (c .before .before .before .before .before .before .sort-relay .ensures) ∙ c .before .before .before .before .kind .given .1)
+    (sym (c .before .before .relay-terminals .ensures) ∙ c .earlier .given .1)
+
+sort-relay-requires : tie.Need-sort-relay-requires
+sort-relay-requires c κs = search needs
+
+enum-known-kind : tie.Need-enum-known-kind
+enum-known-kind c = search needs
+
+enum-told : tie.Need-enum-told
+enum-told c = search needs
+
+returns : tie.Need-returns
+returns c = absurd (some-relay _ _ (c .before .before .before .before .pre .0) (sym (c .before .before .sort-relay .ensures) ∙ c .enum-told .given .1))
+
+relay-terminals-requires : tie.Need-relay-terminals-requires
+relay-terminals-requires c κs = search needs
+
+enum-known-earlier : tie.Need-enum-known-earlier
+enum-known-earlier c = search needs
+
+enum-told-2 : tie.Need-enum-told-2
+enum-told-2 c = search needs
+
+returns-2 : tie.Need-returns-2
+returns-2 c = absurd (some-terminals _ _ (c .before .before .before .before .before .before .before .before .pre .0) (sym (c .before .before .relay-terminals .ensures) ∙ c .enum-told2 .given .1))
+
+put-decimal-requires : tie.Need-put-decimal-requires
+put-decimal-requires c κs = omega (arith, net (c .before .before))
+
+put-terminal-requires : tie.Need-put-terminal-requires
+put-terminal-requires c κs = omega (arith, net (c .before .before .before .before .before .before))
+
+put-terminal-requires-2 : tie.Need-put-terminal-requires-2
+put-terminal-requires-2 c κs = omega (arith, net (c .before .before .before .before .before .before .before .before .before .before))
+
+put-byte-requires : tie.Need-put-byte-requires
+put-byte-requires c κs = omega (arith, net (c .before .before .before .before .before .before .before .before .before .before .before .before .before .before))
+
+same-length : tie.Need-same-length
+same-length c = search needs
+
+returns-3 : tie.Need-returns-3
+returns-3 c =
+    wrote-as (net (c .before .before .before .before .before .before .before .before .before .before .before .before .before .before .before .before .before) .line)
+    (wrote-append (c .before .before .before .before .before .before .before .before .before .before .before .before .before .before .put-decimal .ensures)
+    (wrote-append (c .before .before .before .before .before .before .before .before .before .before .put-terminal .ensures)
+    (wrote-append (c .before .before .before .before .before .before .put-terminal2 .ensures) (c .before .before .put-byte .ensures))))
+
+pub put-net-spec : {M : Type 1} → statement M
+put-net-spec =
+    tie.close
+    (tie.spec
+    sort-relay-requires
+    enum-known-kind
+    enum-told
+    returns
+    relay-terminals-requires
+    enum-known-earlier
+    enum-told-2
+    returns-2
+    put-decimal-requires
+    put-terminal-requires
+    put-terminal-requires-2
+    put-byte-requires
+    same-length
+    returns-3)

@@ -1,0 +1,70 @@
+-- `listing::put_nets` meets its contract. The loop's invariant: the lines of the closed relays passed are written. Assumes nothing.
+use Prim.Native.Nat.{_*_, _-_, _≤_}
+use mathlib.Core.Path.{_≡_, sym, _∙_}
+use mathlib.Core.Logic.{⊎-elim}
+use native.Mathlib.Omega.{arith}
+use borrow.Author.Needs.{needs}
+use Rattle.text.specs.Wrote.{Wrote}
+use Rattle.text.proofs.Stores.{wrote-length}
+use Rattle.listing.specs.Lines.{netLines}
+use Rattle.listing.proofs.Lines.{nets-none, nets-closed, nets-open, nets-room}
+use Rattle.listing.proofs.put_nets.Statement.{statement}
+use Rattle.listing.proofs.put_nets.Tie as tie
+
+abbrev Inv-loop : tie.InvT-loop
+Inv-loop room₀ at size map relays next₀ relay₀ room next relay = (relay ≤ relays) × Wrote room₀ at (netLines size map relay) room next
+
+abbrev μ-loop : tie.MeasureT-loop
+μ-loop room₀ at size map relays next₀ relay₀ room next relay = relays - relay
+
+mul-relays : tie.Need-mul-relays Inv-loop μ-loop
+mul-relays c = omega arith
+
+loop-holds : tie.Need-loop-holds Inv-loop μ-loop
+loop-holds c = (omega arith, nets-none _ _)
+
+is-closed-requires : tie.Need-is-closed-requires Inv-loop μ-loop
+is-closed-requires c κs = search needs
+
+put-net-requires : tie.Need-put-net-requires Inv-loop μ-loop
+put-net-requires c κs = (
+  omega arith,
+  omega (arith, wrote-length (c .before .before .before .before .loop .inv .1), nets-room (c .before .before .before .before .before .before .before .args .size) (c .before .before .before .before .loop .relay) (6 * c .before .before .before .before .before .before .before .args .size) (c .before .before .before .before .before .before .before .args .map .now) (omega arith) (sym (c .before .before .is-closed .ensures) ∙ c .before .if1 .taken)),
+)
+
+add-relay : tie.Need-add-relay Inv-loop μ-loop
+add-relay c = omega arith
+
+loop-less : tie.Need-loop-less Inv-loop μ-loop
+loop-less c = omega arith
+
+loop-again : tie.Need-loop-again Inv-loop μ-loop
+loop-again c =
+    ⊎-elim
+    (λ w. (omega arith, rw (w .5, w .6) (nets-closed _ _ _ (sym (c .before .is-closed .ensures) ∙ w .0 .taken) (c .before .before .before .loop .inv .1) (w .2 .ensures))))
+    (λ w. (omega arith, rw (w .1, w .2) (nets-open _ _ _ (sym (c .before .is-closed .ensures) ∙ w .0 .left) (c .before .before .before .loop .inv .1))))
+    (c .if1 .came)
+
+same-length : tie.Need-same-length Inv-loop μ-loop
+same-length c = wrote-length (c .before .loop .inv .1)
+
+returns : tie.Need-returns Inv-loop μ-loop
+returns c =
+    let e : c .before .loop .relay ≡ 6 * c .before .before .before .before .args .size = omega arith in
+    rw e at (c .before .loop .inv .1)
+
+pub put-nets-spec : {M : Type 1} → statement M
+put-nets-spec =
+    tie.close
+    (tie.spec
+    Inv-loop
+    μ-loop
+    mul-relays
+    loop-holds
+    is-closed-requires
+    put-net-requires
+    add-relay
+    loop-less
+    loop-again
+    same-length
+    returns)

@@ -1,0 +1,259 @@
+// Runs every bench example of the scope, starred or not, and the seven vectors of document 000's Table I at size 2. Each is compared
+// with what it should be and has a line of its own; the last line says how many hold.
+ghost use mathlib.Core.Path.{_≡_};
+ghost use lib.ListN.{getD};
+ghost use Rattle.run_examples.specs.Compare.{given, stands};
+use answers::Answer;
+use frame::Counts;
+use libc::STDOUT_FILENO;
+
+// What a room holds before it is lent. No map below has this byte, so it shows what was written and what was left alone.
+const FILL: u8 = 0xA5;
+
+// How many examples were run, and how many of them hold.
+struct Tally {
+    run: u64,
+    hold: u64,
+}
+
+// One example more. There are so few that the sums do not wrap.
+fn counted(tally: Tally, right: bool) -> Tally {
+    let run = std::num::wrapping_add_u64(tally.run, 1);
+    if right {
+        return Tally {
+            run,
+            hold: std::num::wrapping_add_u64(tally.hold, 1),
+        };
+    }
+    Tally {
+        run,
+        hold: tally.hold,
+    }
+}
+
+fn say(text: &[u8]) {
+    io::write_all(STDOUT_FILENO, text);
+}
+
+fn say_number(n: u64) {
+    io::print_decimal(STDOUT_FILENO, n);
+}
+
+// The last hexadecimal digit of a number, as the scope writes it.
+fn digit(n: u8) -> u8 {
+    let d = n % 16;
+    if d < 10 { 48 + d } else { 55 + d }
+}
+
+// The bytes of a map.
+fn say_map(map: &[u8]) {
+    let mut i = 0;
+    while i < map.len() {
+        let b = map[i];
+        say(&[b' ', digit(b / 16), digit(b)]);
+        i += 1;
+    }
+}
+
+fn say_count(n: u16) {
+    say(b" ");
+    say_number(n as u64);
+}
+
+// Begins a line: whether the example holds, which call it is, the size and the six counts.
+fn say_call(right: bool, call: &[u8], size: u16, n: Counts) {
+    if right {
+        say(b"ok     ");
+    } else {
+        say(b"WRONG  ");
+    }
+    say(call);
+    say(b", size ");
+    say_number(size as u64);
+    say(b":");
+    say_count(n.n1);
+    say_count(n.n2);
+    say_count(n.n3);
+    say_count(n.n4);
+    say_count(n.n5);
+    say_count(n.n6);
+}
+
+// Ends a line with the code and the number that must come back.
+fn say_refusal(code: u32, number: u64) {
+    say(b" gives code ");
+    say_number(code as u64);
+    say(b", number ");
+    say_number(number);
+    say(b"\n");
+}
+
+// Does the answer have this code and this number?
+fn is(answer: Answer, code: u32, number: u64) -> bool
+    ensures { λ r. ⌜ r ≡ given answer code number ⌝ }
+{
+    if answers::code(answer) != code {
+        return false;
+    }
+    answers::number(answer) == number
+}
+
+// The byte that must stand in the room at a place: the map's, and past the map what the room was filled with.
+fn should_be(map: &[u8], at: usize) -> u8
+    ensures { λ r. ⌜ r ≡ getD (now (map .entry)) at 0xA5 ⌝ }
+{
+    if map.len() <= at {
+        return FILL;
+    }
+    map[at]
+}
+
+// Does the map stand at the start of the room, with the rest of the room as it was before it was lent?
+fn stands_in(room: &[u8], map: &[u8]) -> bool
+    ensures { λ r. ⌜ r ≡ stands (now (room .entry)) (now (map .entry)) ⌝ }
+{
+    if room.len() < map.len() {
+        return false;
+    }
+    let mut i = 0;
+    while i < room.len() {
+        if room[i] != should_be(map, i) {
+            return false;
+        }
+        i += 1;
+    }
+    true
+}
+
+// The router must be done, and this be the map.
+fn routed(tally: Tally, size: u16, n: Counts, map: &[u8]) -> Tally {
+    let mut room = [FILL; 48];
+    let answer = router::route(size, n, &mut room);
+    let right = is(answer, 0, 0) && stands_in(&room, map);
+    say_call(right, b"route", size, n);
+    say(b" gives");
+    say_map(map);
+    say(b"\n");
+    counted(tally, right)
+}
+
+// The router must refuse, with this code and number, and leave all of the room as it was.
+fn refused_in(
+    tally: Tally,
+    call: &[u8],
+    size: u16,
+    n: Counts,
+    room: &mut [u8],
+    code: u32,
+    number: u64,
+) -> Tally {
+    let answer = router::route(size, n, room);
+    let right = is(answer, code, number) && stands_in(room, b"");
+    say_call(right, call, size, n);
+    say_refusal(code, number);
+    counted(tally, right)
+}
+
+fn refused(tally: Tally, size: u16, n: Counts, code: u32, number: u64) -> Tally {
+    let mut room = [FILL; 48];
+    refused_in(tally, b"route", size, n, &mut room, code, number)
+}
+
+// The map check must refuse this map, with this code and number.
+fn faulty(tally: Tally, size: u16, n: Counts, map: &[u8], code: u32, number: u64) -> Tally {
+    let answer = map_check::check_map(size, n, map);
+    let right = is(answer, code, number);
+    say_call(right, b"check", size, n);
+    say(b" with");
+    say_map(map);
+    say_refusal(code, number);
+    counted(tally, right)
+}
+
+// The router must be done at size 2, and the map check be done with its map.
+fn carried(tally: Tally, n: Counts) -> Tally {
+    let mut room = [FILL; 2];
+    let answer = router::route(2, n, &mut room);
+    let right = is(answer, 0, 0) && is(map_check::check_map(2, n, &room), 0, 0);
+    say_call(right, b"Table I", 2, n);
+    say(b" is routed and passes the check\n");
+    counted(tally, right)
+}
+
+fn counts(n1: u16, n2: u16, n3: u16, n4: u16, n5: u16, n6: u16) -> Counts {
+    Counts {
+        n1,
+        n2,
+        n3,
+        n4,
+        n5,
+        n6,
+    }
+}
+
+// The scope's table, sizes 1 to 3.
+fn small_sizes(before: Tally) -> Tally {
+    let mut tally = before;
+    tally = routed(tally, 1, counts(1, 1, 0, 0, 0, 0), b"\x03");
+    tally = refused(tally, 1, counts(1, 0, 1, 0, 0, 0), 3, 2);
+    tally = routed(tally, 2, counts(0, 0, 0, 0, 0, 0), b"\x00\x00");
+    tally = routed(tally, 2, counts(1, 0, 1, 1, 0, 0), b"\xA1\x00");
+    tally = routed(tally, 2, counts(1, 1, 1, 0, 1, 0), b"\x29\x01");
+    tally = routed(tally, 2, counts(0, 0, 1, 1, 1, 1), b"\x50\x09");
+    tally = refused(tally, 2, counts(0, 2, 0, 1, 0, 0), 4, 3);
+    routed(tally, 3, counts(2, 1, 1, 1, 0, 0), b"\x13\x09\x00")
+}
+
+// The scope's table, sizes 64, 0 and 65.
+fn other_sizes(before: Tally) -> Tally {
+    let mut tally = before;
+    // 16 bytes FF, 32 bytes 00
+    let straight =
+        b"\xFF\xFF\xFF\xFF\xFF\xFF\xFF\xFF\xFF\xFF\xFF\xFF\xFF\xFF\xFF\xFF\x00\x00\x00\x00\x00\x00\x00\x00\x00\x00\x00\x00\x00\x00\x00\x00\x00\x00\x00\x00\x00\x00\x00\x00\x00\x00\x00\x00\x00\x00\x00\x00";
+    tally = routed(tally, 64, counts(64, 64, 0, 0, 0, 0), straight);
+    tally = refused(tally, 64, counts(65535, 0, 65535, 0, 0, 65535), 3, 196605);
+    tally = refused(tally, 0, counts(0, 0, 0, 0, 0, 0), 1, 0);
+    refused(tally, 65, counts(0, 0, 0, 0, 0, 0), 1, 65)
+}
+
+// The scope's router with one byte of room, and its map checks.
+fn below_the_table(before: Tally) -> Tally {
+    let mut tally = before;
+    let mut byte = [FILL; 1];
+    tally = refused_in(
+        tally,
+        b"route into one byte",
+        2,
+        counts(9, 9, 9, 9, 9, 9),
+        &mut byte,
+        2,
+        2,
+    );
+    tally = faulty(tally, 2, counts(1, 0, 1, 0, 0, 0), b"\x11\x00", 12, 4);
+    tally = faulty(tally, 2, counts(0, 1, 0, 0, 0, 0), b"\x01\x00", 13, 1);
+    faulty(tally, 2, counts(0, 0, 0, 0, 0, 0), b"\x00\x10", 11, 0)
+}
+
+// The vectors of document 000's Table I, in its order.
+fn table_one(before: Tally) -> Tally {
+    let mut tally = before;
+    tally = carried(tally, counts(1, 1, 1, 0, 1, 0));
+    tally = carried(tally, counts(1, 1, 0, 1, 0, 1));
+    tally = carried(tally, counts(1, 0, 1, 1, 0, 0));
+    tally = carried(tally, counts(1, 0, 0, 0, 1, 1));
+    tally = carried(tally, counts(0, 1, 1, 0, 0, 1));
+    tally = carried(tally, counts(0, 1, 0, 1, 1, 0));
+    carried(tally, counts(0, 0, 1, 1, 1, 1))
+}
+
+fn main() {
+    let mut tally = Tally { run: 0, hold: 0 };
+    tally = small_sizes(tally);
+    tally = other_sizes(tally);
+    tally = below_the_table(tally);
+    tally = table_one(tally);
+    say_number(tally.hold);
+    say(b" of ");
+    say_number(tally.run);
+    say(b" examples hold\n");
+}

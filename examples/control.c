@@ -1,0 +1,71 @@
+/*
+ * A bench control program in small: routes a job, checks the map, and closes relays only when both say done.
+ *
+ *     control SIZE N1 N2 N3 N4 N5 N6
+ *
+ * prints the map in hex, or refuses loudly: a message on standard error and exit status 1.
+ */
+#include <stdio.h>
+#include <stdlib.h>
+
+#include "frame.h"
+
+static const char *meaning(uint32_t code)
+{
+    switch (code) {
+    case FRAME_SIZE: return "the size is not 1 to 64";
+    case FRAME_ROOM: return "the room is too short; bytes needed";
+    case FRAME_OVERFULL_L: return "too many nets on the left bank";
+    case FRAME_OVERFULL_T: return "too many nets on the top bank";
+    case FRAME_OVERFULL_R: return "too many nets on the right bank";
+    case FRAME_OVERFULL_B: return "too many nets on the bottom bank";
+    default: return "see the table of codes";
+    }
+}
+
+static void refuse(const char *step, uint32_t code, uint32_t number)
+{
+    fprintf(stderr, "control: %s refused: code %u, number %u (%s)\n", step, code, number, meaning(code));
+    exit(1);
+}
+
+/* One number from 0 to 65535, or a refusal: a count that was mistyped must not become another one. */
+static uint16_t word(const char *text)
+{
+    char *end;
+    unsigned long value = strtoul(text, &end, 10);
+    if (text[0] < '0' || text[0] > '9' || *end != '\0' || value > 65535) {
+        fprintf(stderr, "control: '%s' is not a number from 0 to 65535\n", text);
+        exit(1);
+    }
+    return (uint16_t)value;
+}
+
+int main(int argc, char **argv)
+{
+    uint16_t n[7];
+    uint8_t map[FRAME_MOST_MAP];
+    uint32_t code, number;
+
+    if (argc != 8) {
+        fprintf(stderr, "usage: control SIZE N1 N2 N3 N4 N5 N6\n");
+        return 1;
+    }
+    for (int i = 0; i < 7; i++) {
+        n[i] = word(argv[i + 1]);
+    }
+    code = frame_route(n[0], n[1], n[2], n[3], n[4], n[5], n[6], map, sizeof map, &number);
+    if (code != FRAME_DONE) {
+        refuse("the router", code, number);
+    }
+    /* the router's map always passes; a map from elsewhere is checked the same way before it is closed */
+    size_t bytes = (6 * (size_t)n[0] + 7) / 8;
+    code = frame_check_map(n[0], n[1], n[2], n[3], n[4], n[5], n[6], map, bytes, &number);
+    if (code != FRAME_DONE) {
+        refuse("the map check", code, number);
+    }
+    for (size_t i = 0; i < bytes; i++) {
+        printf("%02X%c", map[i], i + 1 < bytes ? ' ' : '\n');
+    }
+    return 0;
+}

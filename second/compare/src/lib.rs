@@ -1,0 +1,13 @@
+//! The frame library beside the second program: calls, random inputs and the
+//! comparison of both answers.
+
+pub mod both;
+pub mod jobs;
+pub mod kinds;
+pub mod lent;
+pub mod library;
+pub mod lister;
+pub mod maps;
+pub mod prng;
+pub mod records;
+pub mod tally;

@@ -1,0 +1,53 @@
+//! The map check.
+
+use crate::frame::{closed_relays, is_set, map_bytes, served, side_sums, Counts, Relay};
+use crate::{refuse, Refusal};
+
+pub fn check_map(size: u16, counts: Counts, map: &[u8]) -> Result<(), Refusal> {
+    let w = served(size)?;
+    form(map, w)?;
+    let closed = closed_relays(map, w);
+    terminals(&closed, w)?;
+    types(&closed, counts)?;
+    sums(counts, w)
+}
+
+fn form(map: &[u8], w: usize) -> Result<(), Refusal> {
+    let needed = map_bytes(w);
+    if map.len() != needed {
+        return refuse(2, needed);
+    }
+    if (6 * w..8 * needed).any(|k| is_set(map, k)) {
+        return refuse(11, 0);
+    }
+    Ok(())
+}
+
+/// The closed relays stand by rising number, so the first that shares a
+/// terminal with one before it is the lowest such relay.
+fn terminals(closed: &[Relay], w: usize) -> Result<(), Refusal> {
+    for (i, relay) in closed.iter().enumerate() {
+        if closed[..i].iter().any(|r| r.shares_terminal(*relay, w)) {
+            return refuse(12, relay.number(w));
+        }
+    }
+    Ok(())
+}
+
+fn types(closed: &[Relay], counts: Counts) -> Result<(), Refusal> {
+    for (kind, count) in counts.into_iter().enumerate() {
+        if closed.iter().filter(|r| r.kind == kind).count() != usize::from(count) {
+            return refuse(13, kind + 1);
+        }
+    }
+    Ok(())
+}
+
+fn sums(counts: Counts, w: usize) -> Result<(), Refusal> {
+    for (side, sum) in side_sums(counts).into_iter().enumerate() {
+        if sum as usize > w {
+            return refuse(14, side + 1);
+        }
+    }
+    Ok(())
+}

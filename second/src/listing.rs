@@ -1,0 +1,34 @@
+//! The bench lister's text.
+
+use crate::frame::{closed_relays, map_bytes, Relay, Terminal, SIDE_NAMES};
+use crate::records::{read_job, Job};
+use crate::rule::route;
+use crate::Refusal;
+
+/// The whole output for this input.
+pub fn listing(input: &[u8]) -> String {
+    match closed_by_job(input) {
+        Ok((w, closed)) => closed_listing(w, &closed),
+        Err(Refusal { code, number }) => format!("REFUSED {code} {number}\n"),
+    }
+}
+
+fn closed_by_job(input: &[u8]) -> Result<(usize, Vec<Relay>), Refusal> {
+    let Job { size, counts } = read_job(input)?;
+    let w = usize::from(size);
+    let map = route(size, counts, map_bytes(w))?;
+    Ok((w, closed_relays(&map, w)))
+}
+
+fn closed_listing(w: usize, closed: &[Relay]) -> String {
+    let mut text = format!("SIZE {w} NETS {}\n", closed.len());
+    for relay in closed {
+        let [earlier, later] = relay.terminals(w).map(name);
+        text += &format!("{} {earlier} {later}\n", relay.kind + 1);
+    }
+    text
+}
+
+fn name(terminal: Terminal) -> String {
+    format!("{}{}", SIDE_NAMES[terminal.side], terminal.position)
+}
