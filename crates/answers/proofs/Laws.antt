@@ -1,6 +1,6 @@
 -- Laws of answers: done is the one answer of code 0, tests one after the other, and room that is long enough. Assumes nothing.
 use Prim.Native.Nat.{ℕ, _≤_, _<_}
-use mathlib.Core.Path.{_≡_, refl, ap}
+use mathlib.Core.Path.{_≡_, refl}
 use mathlib.Core.Bool.{Bool, true, false, cond}
 use mathlib.Core.List.{List, [], _∷_}
 use mathlib.Core.Logic.{_⊎_, inl, inr, ⊎-elim}
@@ -9,7 +9,7 @@ use lib.Dec.{ltb, lit≤}
 use lib.ListN.{length}
 use types.Run.{OneOf, miss}
 use denote.Enum.Declared.{tagOf}
-use borrow.Author.Tests.{ne-eqb, eqb-true, eqb-false, ltb-false, le-ltb, lt-ltb}
+use borrow.Author.Tests.{ne-eqb, eqb-true, eqb-false, ltb-false, lt-ltb}
 use Rattle.answers.proofs.Answer.{the-type}
 use Rattle.answers.specs.declared.Side.the-variants.{Left, Top, Right, Bottom}
 use Rattle.answers.specs.declared.Answer.{Answer}
@@ -50,12 +50,9 @@ refused-code a h = omega (arith, eqb-false (codeOf a) 0 h)
 pub else-refused : (a : Answer) → OneOf (1 ∷ 2 ∷ 3 ∷ 4 ∷ 5 ∷ 6 ∷ 7 ∷ 8 ∷ 9 ∷ 10 ∷ 11 ∷ []) (tagOf the-type a) → isDone a ≡ false
 else-refused a h = ⊎-elim (λ e. absurd (miss (1 ∷ 2 ∷ 3 ∷ 4 ∷ 5 ∷ 6 ∷ 7 ∷ 8 ∷ 9 ∷ 10 ∷ 11 ∷ []) 0 tt (rw e at h))) (refused a) (done-or-code a)
 
--- a refusal of the first test is the answer; after done it is the second test's
+-- a refusal of the first test is the answer
 pub first-refused : (a b : Answer) → isDone a ≡ false → andThen a b ≡ a
 first-refused a b e = rw e
-
-pub first-done : (a b : Answer) → a ≡ Done → andThen a b ≡ b
-first-done a b e = rw e
 
 pub both-done : (a b : Answer) → isDone (andThen a b) ≡ true → (isDone a ≡ true) × (isDone b ≡ true)
 both-done a b e = go (isDone a) refl e
@@ -71,9 +68,6 @@ room-is needed room e = go (ltb (length room) needed) refl e
     go : (t : Bool) → ltb (length room) needed ≡ t → isDone (cond t (Room needed) Done) ≡ true → needed ≤ length room
     go true l e = let z : _≡_ {A = ℕ} 0 1 = cc in absurd (omega arith)
     go false l e = ltb-false (length room) needed l
-
-pub room-enough : (needed : ℕ) (room : List ℕ) → needed ≤ length room → roomFor needed room ≡ Done
-room-enough needed room h = rw (le-ltb (length room) needed h)
 
 pub room-short : (needed : ℕ) (room : List ℕ) → length room < needed → roomFor needed room ≡ Room needed
 room-short needed room h = rw (lt-ltb (length room) needed h)

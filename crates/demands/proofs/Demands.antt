@@ -1,36 +1,35 @@
 -- The three demands hold. Assumes nothing.
-use Prim.Native.Nat.{ℕ, _+_, _≤_, _<_}
-use mathlib.Core.Path.{_≡_, refl, sym, ap, _∙_}
-use mathlib.Core.Bool.{Bool}
-use mathlib.Core.List.{List, [], _++_}
-use lib.ListN.{length, take, drop}
+use Prim.Native.Nat.{ℕ}
+use mathlib.Core.Path.{_≡_, sym, ap, _∙_}
+use mathlib.Core.List.{List}
+use lib.ListN.{take, drop}
 use lib.Seq.{take-at}
 use Rattle.answers.specs.declared.Answer.the-variants.{Done}
-use Rattle.answers.proofs.Laws.{done-is, is-done}
-use Rattle.wiring.specs.Wiring.{Carries}
-use Rattle.wiring.specs.Frame.{frame}
-use Rattle.wiring.specs.Map.{MapCarries}
+use Rattle.answers.proofs.Laws.{is-done}
+use Rattle.wiring.specs.Lists.{among}
+use Rattle.wiring.specs.Frame.{four}
+use Rattle.wiring.proofs.Frame.{four-rows, within-sides, within-four, four-within, frame-within}
 use Rattle.frame.specs.declared.Counts.{Counts}
 use Rattle.frame.specs.Leaves.{countList, mapBytes}
-use Rattle.router.specs.Route.{mapFor}
+use Rattle.loads.proofs.Counts.{Within, within-counts, counts-within}
+use Rattle.router.specs.Route.{relaysFor, mapFor}
 use Rattle.router.specs.Router.{routeAnswer, routeRoom}
+use Rattle.router.proofs.Carry.{relays-carry}
 use Rattle.router.proofs.Maps.{map-length, map-is, map-carries}
-use Rattle.router.proofs.Answering.{routed}
-use Rattle.router.proofs.Demand.{Verdicts, demand-3}
+use Rattle.router.proofs.Answering.{routed, answers-done}
+use Rattle.map_check.specs.Check.{checkMap}
 use Rattle.map_check.proofs.Laws.{check-is, is-check}
 use Rattle.jobs.specs.declared.Job.{Job}
 use Rattle.jobs.specs.declared.JobRead.{JobRead}
 use Rattle.jobs.specs.Format.{jobRecord}
-use Rattle.jobs.specs.Read.{emptyJob, readJob}
 use Rattle.jobs.specs.Write.{jobAnswer, jobRoom}
 use Rattle.jobs.proofs.RoundTrip.{job-is-written, written-job-reads-back, job-written-again, refused-job}
 use Rattle.patterns.specs.declared.PatternRead.{PatternRead}
 use Rattle.patterns.specs.Format.{patternRecord}
 use Rattle.patterns.specs.Read.{readPattern}
-use Rattle.patterns.specs.Part.{mapPart}
 use Rattle.patterns.specs.Write.{patternAnswer, patternRoom}
 use Rattle.patterns.proofs.RoundTrip.{pattern-is-written, written-pattern-reads-back, pattern-rewritten, pattern-written-again, refused-pattern}
-use Rattle.demands.specs.Demands.{Served, Bytes, Pattern, Demand1, Demand2, Demand3}
+use Rattle.demands.specs.Demands.{Pattern, Demand1, Demand2, NoneOver, SomeCarry, Demand3}
 use Rattle.demands.proofs.Parts.{code-in-table, room-stays, router-told, no-map, part-bytes}
 
 routed-map : (W : ℕ) (n : Counts) (room : List ℕ) → routeAnswer W n room ≡ Done → take (mapBytes W) (routeRoom W n room) ≡ mapFor W n
@@ -51,24 +50,34 @@ demand-1 = record {
   no-default = λ W n room e. rw (routed-map W n room e) (map-carries W n (routed W n room (is-done _ e) .within));
 }
 
-module _ (W : ℕ) (n : Counts) (room : List ℕ) (served : Served W) (fits : mapBytes W ≤ length room) where
-  verdicts : Verdicts W n room
-  verdicts = demand-3 W n room (served .0) (served .1) fits
+-- what carries the counts has no side overfull, and where none is, the rule's relays carry them
+carried-within : (W : ℕ) (n : Counts) → SomeCarry W n → Within W n
+carried-within W n (closed, c) = counts-within W n (frame-within W (countList n) closed c)
 
-  carried : (closed : ℕ → Bool) → Carries (frame W) (countList n) closed → routeAnswer W n room ≡ Done
-  carried closed c = done-is _ (verdicts .carried-done (closed, c))
+within-sums : (W : ℕ) (n : Counts) → NoneOver W n → Within W n
+within-sums W n h = counts-within W n (four-within W (countList n) (within-sides 4 four four-rows W (countList n) h))
 
-pattern-fits : (j : Job) (map room : List ℕ) → Pattern j map → 22 + mapBytes (j .size) ≤ length room → patternAnswer j map room ≡ Done
-pattern-fits j map room p h = pattern-is-written j map room (is-check (j .size) (countList (j .counts)) map (p .0 .0) (p .0 .1) (p .1) (p .2)) h
+pub demand-3 : Demand3
+demand-3 W n room s h = record {
+  done-within = λ e side a b. within-four W (countList n) (within-counts W n (routed W n room (is-done _ e) .within)) side;
+  within-carried = λ f. ((λ k. among k (relaysFor W n)), relays-carry W n (within-sums W n f));
+  carried-done = λ c. answers-done W n room (s .0) (s .1) h (carried-within W n c);
+}
+
+-- what the router gives is a pattern
+routed-pattern : (W : ℕ) (n : Counts) (room : List ℕ) → routeAnswer W n room ≡ Done → Pattern (record { size = W; counts = n }) (mapFor W n)
+routed-pattern W n room e = let r = routed W n room (is-done _ e) in ((r .from1, r .upto64), map-is W n (r .within), map-carries W n (r .within))
+
+pattern-passes : (j : Job) (map : List ℕ) → Pattern j map → checkMap (j .size) (countList (j .counts)) map ≡ Done
+pattern-passes j map p = is-check (j .size) (countList (j .counts)) map (p .0 .0) (p .0 .1) (p .1) (p .2)
 
 pub demand-2 : Demand2
 demand-2 = record {
-  chosen = λ W n room closed s h c. let e = carried W n room s h closed c in (e, routed W n room (is-done _ e) .after);
-  pattern-written = pattern-fits;
+  chosen = λ W n room closed s h c. let e = demand-3 W n room s h .carried-done (closed, c) in (e, routed W n room (is-done _ e) .after);
+  pattern-written = λ j map room p h. pattern-is-written j map room (pattern-passes j map p) h;
   job-written = λ j room s h. job-is-written j room (s .0) (s .1) h;
-  routed-written = λ j room record-room e h.
-      let r = routed (j .size) (j .counts) room (is-done _ e) in
-      pattern-fits j (mapFor (j .size) (j .counts)) record-room ((r .from1, r .upto64), map-is (j .size) (j .counts) (r .within), map-carries (j .size) (j .counts) (r .within)) h;
+  routed-passes = λ W n room e. pattern-passes (record { size = W; counts = n }) (mapFor W n) (routed-pattern W n room e);
+  routed-written = λ j room record-room e h. pattern-is-written j (mapFor (j .size) (j .counts)) record-room (pattern-passes j (mapFor (j .size) (j .counts)) (routed-pattern (j .size) (j .counts) room e)) h;
   pattern-back = λ j map room e.
       let b = written-pattern-reads-back j map room e in
       (ap (λ (r : PatternRead). r .answer) (b .read), ap (λ (r : PatternRead). r .job) (b .read), b .same);
@@ -80,11 +89,6 @@ demand-2 = record {
       let c = check-is _ _ _ (part-bytes s (readPattern s) b) (is-done _ (a .passes)) in
       (c .served, c .map, c .carries);
 }
-
-pub demand-3-holds : Demand3
-demand-3-holds W n room s h =
-    let v = verdicts W n room s h in
-    record { done-within = λ e. v .done-within (is-done _ e); within-carried = v .within-carried; carried-done = λ c. done-is _ (v .carried-done c) }
 
 -- every public contract is an equation with a definition of what was handed in: two outcomes that it allows are equal
 pub one-outcome : {A : Type 0} {meaning a b : A} → a ≡ meaning → b ≡ meaning → a ≡ b

@@ -20,7 +20,6 @@ use Rattle.wiring.specs.Wiring.{sideSum}
 use Rattle.wiring.specs.Frame.{four}
 use Rattle.wiring.proofs.Bools.{fails}
 use Rattle.frame.specs.declared.Counts.{Counts}
-use Rattle.frame.specs.declared.Over.{Over}
 use Rattle.frame.specs.declared.Over.the-variants.{Above, Nowhere}
 use Rattle.frame.specs.Leaves.{countList, mapBytes}
 use Rattle.frame.specs.Tests.{sizeTest, firstOver, overfull}

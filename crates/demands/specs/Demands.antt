@@ -1,6 +1,6 @@
 -- What is promised: the three demands over the definitions that the contracts cite. Each is proved in proofs/Demands.antt.
--- That every input is taken, and that every call ends without a fault, is proved of each function itself: no public function of the
--- library has a `requires`. Assumes nothing.
+-- That every input is taken, and that every call ends without a fault, is proved of each function itself: no function that others
+-- call has a `requires`. (A few leaves that only our own crates call have one; docs/DECISIONS.md lists them.) Assumes nothing.
 use Prim.Native.Nat.{ℕ, _+_, _≤_, _<_}
 use mathlib.Core.Path.{_≡_}
 use mathlib.Core.Bool.{Bool}
@@ -18,6 +18,7 @@ use Rattle.frame.specs.declared.Counts.{Counts}
 use Rattle.frame.specs.Leaves.{countList, mapBytes}
 use Rattle.router.specs.Route.{mapFor}
 use Rattle.router.specs.Router.{routeAnswer, routeRoom}
+use Rattle.map_check.specs.Check.{checkMap}
 use Rattle.jobs.specs.declared.Job.{Job}
 use Rattle.jobs.specs.Read.{emptyJob, readJob}
 use Rattle.jobs.specs.Write.{jobAnswer, jobRoom}
@@ -59,7 +60,8 @@ pub record Demand2 : Type 0 where
   -- each pattern that carries its job is written where the room is long enough; so is each job of a size from 1 to 64
   pub pattern-written : (j : Job) (map room : List ℕ) → Pattern j map → 22 + mapBytes (j .size) ≤ length room → patternAnswer j map room ≡ Done
   pub job-written : (j : Job) (room : List ℕ) → Served (j .size) → 19 ≤ length room → jobAnswer j room ≡ Done
-  -- in particular the pattern that the router makes
+  -- what the router gives passes the map check for its job, and is written as a pattern
+  pub routed-passes : (W : ℕ) (n : Counts) (room : List ℕ) → routeAnswer W n room ≡ Done → checkMap W (countList n) (mapFor W n) ≡ Done
   pub routed-written : (j : Job) (room record-room : List ℕ) → routeAnswer (j .size) (j .counts) room ≡ Done → 22 + mapBytes (j .size) ≤ length record-room
       → patternAnswer j (mapFor (j .size) (j .counts)) record-room ≡ Done
   -- the record reads back to the same size, counts and relays

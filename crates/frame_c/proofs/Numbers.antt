@@ -1,30 +1,24 @@
 -- Every number that comes back fits 32 bits, whatever is handed in. Assumes nothing.
-use Prim.Native.Nat.{ℕ, _*_, _<_}
+use Prim.Native.Nat.{ℕ, _<_}
 use mathlib.Core.Path.{_≡_, refl}
 use mathlib.Core.Bool.{Bool, true, false, cond, _&&_}
 use mathlib.Core.List.{List}
 use native.Mathlib.Omega.{arith}
-use lib.Dec.{eqb, ltb, leb}
+use lib.Dec.{ltb, leb}
 use lib.ListN.{length}
-use borrow.Author.Tests.{ltb-true, leb-true}
-use Rattle.answers.specs.declared.Side.{Side}
 use Rattle.answers.specs.declared.Side.the-variants.{Left, Top, Right, Bottom}
 use Rattle.answers.specs.declared.Answer.{Answer}
-use Rattle.answers.specs.declared.Answer.the-variants.{Done, Size, Room, Spare, Shared, Count}
+use Rattle.answers.specs.declared.Answer.the-variants.{Done, Size, Room}
 use Rattle.answers.specs.Table.{numberOf}
 use Rattle.answers.specs.Lent.{isDone, andThen, roomFor}
 use Rattle.wiring.specs.Wiring.{sideSum}
-use Rattle.wiring.specs.Frame.{four, frame}
-use Rattle.wiring.specs.Map.{closedIn}
-use Rattle.wiring.specs.Check.{spareSet, clashAt, wrongType}
+use Rattle.wiring.specs.Frame.{four}
 use Rattle.wiring.proofs.Frame.{four-sums}
 use Rattle.frame.specs.declared.Counts.{Counts}
-use Rattle.frame.specs.declared.Over.{Over}
 use Rattle.frame.specs.declared.Over.the-variants.{Above, Nowhere}
 use Rattle.frame.specs.Leaves.{countList, mapBytes}
-use Rattle.frame.specs.Tests.{sizeTest, firstOver, overfull, sumAbove}
+use Rattle.frame.specs.Tests.{sizeTest, firstOver, overfull}
 use Rattle.router.specs.Router.{routeAnswer}
-use Rattle.map_check.specs.Check.{formTest, sharedTest, countsTest, sumsTest, closedTest, checkMap}
 
 -- the answer's number fits
 abbrev pub Fits : Answer → Type 0

@@ -1,19 +1,16 @@
 -- Closing the nets of a block one after the other, as laws over plain values. Assumes nothing.
 use Prim.Native.Nat.{ℕ, zero, suc, _+_, _*_, _-_, _/_, _%_, _^_, _≤_, _<_}
-use mathlib.Core.Path.{_≡_, refl, sym, ap, _∙_}
-use mathlib.Core.Bool.{Bool, true, _&&_}
+use mathlib.Core.Path.{_≡_, sym, ap, _∙_}
+use mathlib.Core.Bool.{true}
 use mathlib.Core.List.{List, [], _∷_, map}
 use native.Mathlib.Omega.{arith}
 use native.Mathlib.Nat.{mul-le-mul-right}
 use native.Mathlib.Numerals.{add-one}
-use lib.Dec.{leb}
 use lib.ListN.{length, getD, take, drop, replicate, length-drop, drop-of-length-le}
 use lib.Seq.{getD-take, drop-cons, length-take-le}
-use borrow.Author.Tests.{leb-true}
 use Rattle.wiring.specs.Wiring.{nets}
 use Rattle.wiring.specs.Frame.{relay}
 use Rattle.wiring.specs.Map.{withClosed, closeAll}
-use Rattle.wiring.proofs.Bools.{and-parts}
 use Rattle.wiring.proofs.Numbers.{type-relay, place-relay}
 use Rattle.frame.specs.declared.Counts.{Counts}
 use Rattle.frame.specs.Leaves.{countList}
@@ -22,6 +19,7 @@ use Rattle.loads.specs.Seat.{netList, seats, seatOf}
 use Rattle.loads.specs.Types.{allBetween}
 use Rattle.loads.proofs.Counts.{Within}
 use Rattle.loads.proofs.Seats.{row-known}
+use Rattle.loads.proofs.Trial as Trial
 use Rattle.router.specs.declared.Seated.{Seated}
 use Rattle.router.specs.Route.{lowHigh, spread}
 use Rattle.router.specs.Seated.{Nets, SeatedRow}
@@ -60,15 +58,6 @@ pub closed-none : (k nets : ℕ) (room : List ℕ) → nets ≤ 1 → (nets ≡ 
 unfolding closeAll
 closed-none k nets room l z = let e : nets ≡ 0 = omega arith in rw e
 
--- each number of a list that passes
-pub between-getD : (low high : ℕ) (cs : List ℕ) (j : ℕ) → allBetween low high cs ≡ true → j < length cs → (low ≤ getD cs j 0) × (getD cs j 0 ≤ high)
-unfolding allBetween
-between-getD low high [] j e h = absurd (omega arith)
-between-getD low high (c ∷ cs) zero e h =
-    let a = and-parts (leb low c) (leb c high) (and-parts (leb low c && leb c high) (allBetween low high cs) e .0) in
-    (leb-true low c (a .0), leb-true c high (a .1))
-between-getD low high (c ∷ cs) (suc j) e h = between-getD low high cs j (and-parts (leb low c && leb c high) (allBetween low high cs) e .1) (omega arith)
-
 -- a relay of the block, by type and seat, in the frame
 spread-seat : (W p c high : ℕ) → 1 ≤ c → high < 2 → spread W p (relay 2 c (high + 1)) ≡ relay W c (lowHigh W p (high + 1))
 unfolding spread
@@ -89,7 +78,7 @@ module _ (W p : ℕ) (x : Seated) (h : Nets x) where
   taken = length-take-le (x .nets) (x .types) (omega (arith, h .four, h .upto))
 
   pub type-at : (j : ℕ) → j < x .nets → (1 ≤ getD (x .types) j 0) × (getD (x .types) j 0 ≤ 6)
-  type-at j l = rw (getD-take (x .nets) (x .types) j 0 l) at (between-getD 1 6 (take (x .nets) (x .types)) j (h .types) (omega (arith, taken)))
+  type-at j l = rw (getD-take (x .nets) (x .types) j 0 l) at (Trial.type-at (take (x .nets) (x .types)) j (h .types) (omega (arith, taken)))
 
   next-relay : (j : ℕ) → j < x .nets → toClose W p x j ≡ relay W (getD (x .types) j 0) (lowHigh W p (x .seating / 2 ^ (x .nets - 1 - j) % 2 + 1)) ∷ toClose W p x (j + 1)
   unfolding toClose

@@ -1,4 +1,3 @@
-pub mod Tally
 pub mod Touched
 pub mod Cells
 pub mod Joining
@@ -7,4 +6,3 @@ pub mod Maps
 pub mod Blocks
 pub mod Serving
 pub mod Answering
-pub mod Demand

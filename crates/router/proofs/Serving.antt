@@ -2,7 +2,7 @@
 use Prim.Native.Nat.{ℕ, zero, suc, _+_, _-_, _≤_, _<_}
 use mathlib.Core.Path.{_≡_, refl, sym, ap, _∙_}
 use mathlib.Core.Bool.{true, false}
-use mathlib.Core.List.{List, _∷_, _++_, map, map-append}
+use mathlib.Core.List.{List, _∷_, map, map-append}
 use native.Mathlib.Omega.{arith}
 use native.Mathlib.Numerals.{add-one}
 use lib.ListN.{replicate, take}
@@ -10,21 +10,14 @@ use Rattle.wiring.specs.Frame.{relay}
 use Rattle.wiring.specs.Map.{closeAll}
 use Rattle.wiring.proofs.Closing.{closeAll-append}
 use Rattle.frame.specs.declared.Counts.{Counts}
-use Rattle.frame.specs.Leaves.{mapBytes}
 use Rattle.loads.specs.Table.{row}
 use Rattle.loads.specs.Load.{atMost, less, fits, pick, load}
 use Rattle.loads.specs.Seat.{netList, seats, seating}
 use Rattle.loads.proofs.Counts.{Within, Part, part-test}
 use Rattle.loads.proofs.Choice.{Served, served, later-none}
 use Rattle.router.specs.declared.Seated.{Seated}
-use Rattle.router.specs.Route.{spread, centre, route, relaysFor, mapFor}
+use Rattle.router.specs.Route.{spread, centre, route, relaysFor}
 use Rattle.router.specs.Seated.{SeatedRow}
-use Rattle.router.proofs.Maps.{room-after}
-
--- The loop's state: `closeAll room (route W r p n) ≡ target`, where r falls by 2 and p rises by 1. At its start:
-pub route-start : (W : ℕ) (n : Counts) (rest : List ℕ) → Within W n → closeAll (replicate (mapBytes W) 0 ++ rest) (route W W 1 n) ≡ mapFor W n ++ rest
-unfolding relaysFor
-route-start W n rest w = room-after W n w rest
 
 -- one block, and what is then still to do
 pub route-step : (W k p : ℕ) (n : Counts) (room : List ℕ)

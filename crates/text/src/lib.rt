@@ -19,12 +19,8 @@ pub fn put_bytes(room: &mut [u8], at: usize, bytes: &[u8]) -> usize
     requires { ⌜ at + length (now bytes) ≤ length (now room) ⌝ }
     ensures { λ r. ⌜ Wrote (now (room .entry)) at (now (bytes .entry)) (now (room .exit)) r ⌝ }
 {
-    let mut i = 0;
-    while i < bytes.len() {
-        room[at + i] = bytes[i];
-        i += 1;
-    }
-    at + i
+    fields::put_bytes(room, at, bytes);
+    at + bytes.len()
 }
 
 // A number in decimal, with the fewest digits.

@@ -1,6 +1,7 @@
 pub mod Bools
 pub mod Lists
 pub mod Counting
+pub mod Tally
 pub mod Search
 pub mod Numbers
 pub mod Pigeon

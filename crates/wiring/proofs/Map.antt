@@ -8,7 +8,7 @@ use native.Mathlib.Omega.{arith}
 use native.Mathlib.Nat.{zero-div}
 use native.Mathlib.Decide.{ℕ-discrete, decLt}
 use lib.Dec.{eqb}
-use lib.Bits.{bitOr, bitXor, differ, or-lt}
+use lib.Bits.{bitOr, differ, or-lt}
 use lib.Pow.{pow-lt}
 use lib.ListN.{length, getD, set, replicate, length-set, length-replicate, List·getD-append, List·getD-eq-default}
 use lib.Seq.{getD-set-same, getD-set-other, set-append-left, set-out, ext-getD}
@@ -166,10 +166,6 @@ opened-map relays m k a h c = record {
 }
 
 -- a room that is longer than the map: the map in front is what counts, and what stands behind it stays
-pub closed-front : (m rest : List ℕ) (k : ℕ) → k / 8 < length m → closedIn (m ++ rest) k ≡ closedIn m k
-unfolding closedIn
-closed-front m rest k h = rw (List·getD-append m rest 0 (k / 8) h)
-
 pub close-front : (m rest : List ℕ) (k : ℕ) → k / 8 < length m → withClosed (m ++ rest) k ≡ withClosed m k ++ rest
 unfolding withClosed
 close-front m rest k h = rw (List·getD-append m rest 0 (k / 8) h) (set-append-left m rest (k / 8) (bitOr (getD m (k / 8) 0) (2 ^ (k % 8))) h)

@@ -60,10 +60,6 @@ relay-of W k =
     let q : k / W + 1 - 1 ≡ k / W = omega arith in
     omega (arith, div-add-mod' k W, ap (λ (x : ℕ). x * W) q)
 
--- the first number of the relay's type
-pub type-low : (W k : ℕ) → (typeIn W k - 1) * W ≤ k
-type-low W k = omega (arith, relay-of W k)
-
 pub same-relay : (W j k : ℕ) → typeIn W j ≡ typeIn W k → placeIn W j ≡ placeIn W k → j ≡ k
 same-relay W j k a b = cc (relay-of W j, relay-of W k)
 

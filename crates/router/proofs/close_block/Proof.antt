@@ -1,14 +1,11 @@
 -- `router::close_block` meets its contract. What is still to do: the nets from j on. Assumes nothing.
 use Prim.Native.Nat.{_-_, _≤_}
 use mathlib.Core.Path.{_≡_, refl, ap, _∙_}
-use mathlib.Core.List.{map}
 use native.Mathlib.Omega.{arith}
 use borrow.Author.Needs.{needs}
-use lib.ListN.{length, take, drop}
+use lib.ListN.{length}
 use Rattle.wiring.specs.Map.{closeAll}
 use Rattle.wiring.proofs.Closing.{length-close}
-use Rattle.loads.specs.Seat.{seats}
-use Rattle.router.specs.Route.{spread}
 use Rattle.router.proofs.Blocks.{toClose, type-at, left-next, left-none}
 use Rattle.router.proofs.close_block.Statement.{statement}
 use Rattle.router.proofs.close_block.Tie as tie

@@ -1,8 +1,6 @@
 -- `run_examples::stands_in` meets its contract. The loop's invariant: the comparison is that of what is still to compare. Assumes nothing.
 use Prim.Native.Nat.{_-_}
 use mathlib.Core.Path.{_≡_, refl}
-use native.Mathlib.Omega.{arith}
-use denote.Ref.{now}
 use lib.ListN.{length, drop}
 use borrow.Author.Needs.{needs}
 use Rattle.run_examples.specs.Compare.{stands}
