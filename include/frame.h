@@ -1,5 +1,5 @@
 /*
- * The relay frame of an ultrasonic gauge bench: router, map check and records.
+ * The relay frame of an ultrasonic gauge bench: router, map check, records, and nets added and dropped one by one.
  *
  * Every call takes every input there can be. It gives a code (the result) and a number (through the last
  * pointer, always written; 0 with FRAME_DONE). A refusal leaves lent room as it came. Nothing has to be
@@ -46,7 +46,10 @@ enum frame_code {
     FRAME_SPARE = 11,       /* a spare bit of the map is set: 0 */
     FRAME_SHARED = 12,      /* the lowest closed relay that shares a terminal with a lower-numbered closed one */
     FRAME_COUNT = 13,       /* the first type whose closed relays are not as many as its count */
-    FRAME_SUM_ABOVE = 14    /* map check: a side sum above the size: the side, 1 to 4 for L, T, R, B */
+    FRAME_SUM_ABOVE = 14,   /* map check: a side sum above the size: the side, 1 to 4 for L, T, R, B */
+    FRAME_TYPE = 18,        /* add: type not 1 to 6: the type */
+    FRAME_NONE_FREE = 19,   /* add: no relay of the type has both its terminals free: the type */
+    FRAME_NOT_CLOSED = 20   /* drop: the relay is not closed, or no relay has that number: that number */
 };
 
 /*
@@ -93,6 +96,43 @@ uint32_t frame_read_pattern(const uint8_t *record, size_t record_len, uint16_t *
 uint32_t frame_write_pattern(uint16_t size, uint16_t n1, uint16_t n2, uint16_t n3, uint16_t n4, uint16_t n5,
                              uint16_t n6, const uint8_t *map, size_t map_len, uint8_t *room, size_t room_len,
                              uint32_t *number);
+
+/*
+ * Nets one by one, while the others stay closed. A start is an open frame (frame_open_all) or a map that may be
+ * closed (frame_check_start says whether): one from the router, from a pattern record, or from calls made
+ * before. The map is lent to each call, and each call makes the start's tests first, so nothing has to be
+ * remembered between calls and no map is changed that was not tested.
+ */
+
+/* Beside a refused frame_add_net. No frame has a relay of this number, and dropping it is refused. */
+#define FRAME_NO_RELAY 65535
+
+/*
+ * Opens all relays: on FRAME_DONE the first m bytes of the room are the map of an open frame, and the rest is
+ * unchanged. On a refusal all of it is unchanged. Codes in this order: 1, 2.
+ */
+uint32_t frame_open_all(uint16_t size, uint8_t *room, size_t room_len, uint32_t *number);
+
+/*
+ * Says whether a map may be closed, whatever its job: exactly m bytes, no spare bit set, no terminal touched by
+ * two closed relays. Writes nothing else. Codes in this order: 1, 2, 11, 12.
+ */
+uint32_t frame_check_start(uint16_t size, const uint8_t *map, size_t map_len, uint32_t *number);
+
+/*
+ * Adds a net of a type: closes the lowest-numbered relay of that type that has both its terminals free, and
+ * says which in *relay. No relay is opened. It is refused with 19 exactly if there is no such relay, even where
+ * another map could carry one net more. On a refusal the map is unchanged and *relay is FRAME_NO_RELAY.
+ * Codes in this order: 1, 2, 11, 12, 18, 19.
+ */
+uint32_t frame_add_net(uint16_t size, uint8_t *map, size_t map_len, uint16_t type, uint16_t *relay,
+                       uint32_t *number);
+
+/*
+ * Drops the net of a relay: opens that relay and no other. On a refusal the map is unchanged.
+ * Codes in this order: 1, 2, 11, 12, 20.
+ */
+uint32_t frame_drop_net(uint16_t size, uint8_t *map, size_t map_len, uint16_t relay, uint32_t *number);
 
 #ifdef __cplusplus
 }

@@ -1,15 +1,22 @@
-//! The map check.
+//! The map check, and the part of it that every start must pass.
 
 use crate::frame::{closed_relays, is_set, map_bytes, served, side_sums, Counts, Relay};
 use crate::{refuse, Refusal};
 
 pub fn check_map(size: u16, counts: Counts, map: &[u8]) -> Result<(), Refusal> {
+    let closed = check_start(size, map)?;
+    types(&closed, counts)?;
+    sums(counts, usize::from(size))
+}
+
+/// The closed relays by rising number, if the map may be closed whatever its
+/// job.
+pub fn check_start(size: u16, map: &[u8]) -> Result<Vec<Relay>, Refusal> {
     let w = served(size)?;
     form(map, w)?;
     let closed = closed_relays(map, w);
     terminals(&closed, w)?;
-    types(&closed, counts)?;
-    sums(counts, w)
+    Ok(closed)
 }
 
 fn form(map: &[u8], w: usize) -> Result<(), Refusal> {

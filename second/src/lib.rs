@@ -1,6 +1,7 @@
 //! The relay frame, written a second time from its description alone and
 //! without the library it is compared with.
 
+pub mod changes;
 pub mod check;
 pub mod frame;
 pub mod listing;

@@ -1,5 +1,6 @@
 //! The bench examples, Table I, Table II and demand 3 for the plain program.
 
+use second::changes::Bench;
 use second::check::check_map;
 use second::frame::{map_bytes, side_sums, Counts, Relay, SIDES};
 use second::listing::listing;
@@ -48,6 +49,21 @@ fn bench_map_checks() {
     assert_eq!(check([0, 1, 0, 0, 0, 0], [0x01, 0x00]), refused(13, 1));
     assert_eq!(check([0; 6], [0x00, 0x10]), refused(11, 0));
     assert_eq!(check_map(2, [0; 6], &[0]), refused(2, 2));
+}
+
+/// Relays 0 and 2 are L1 R2 and T1 B2; type 3 has relays 4, L1 T2, and 5, L2 T1.
+#[test]
+fn bench_changes() {
+    let mut bench = Bench::from_map(2, &[0x05, 0x00]).expect("no terminal is touched twice");
+    assert_eq!(bench.add_net(3), refused(19, 3));
+    assert!(routed(2, [1, 1, 1, 0, 0, 0]).is_ok());
+    assert_eq!(bench.drop_net(0), Ok(()));
+    assert_eq!(bench.add_net(3), Ok(4));
+    assert_eq!(bench.map(), [0x14, 0x00]);
+    assert_eq!(bench.drop_net(0), refused(20, 0));
+    assert_eq!(bench.drop_net(12), refused(20, 12));
+    assert_eq!(bench.add_net(7), refused(18, 7));
+    assert_eq!(bench.map(), [0x14, 0x00]);
 }
 
 #[test]

@@ -65,7 +65,7 @@ demand-3 W n room s h = record {
 }
 
 -- what the router gives is a pattern
-routed-pattern : (W : ℕ) (n : Counts) (room : List ℕ) → routeAnswer W n room ≡ Done → Pattern (record { size = W; counts = n }) (mapFor W n)
+pub routed-pattern : (W : ℕ) (n : Counts) (room : List ℕ) → routeAnswer W n room ≡ Done → Pattern (record { size = W; counts = n }) (mapFor W n)
 routed-pattern W n room e = let r = routed W n room (is-done _ e) in ((r .from1, r .upto64), map-is W n (r .within), map-carries W n (r .within))
 
 pattern-passes : (j : Job) (map : List ℕ) → Pattern j map → checkMap (j .size) (countList (j .counts)) map ≡ Done

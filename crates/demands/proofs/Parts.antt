@@ -1,19 +1,19 @@
 -- Small facts behind the demands: answers and their codes, what an overfull side tells, and lent room after a refusal. Assumes nothing.
-use Prim.Native.Nat.{ℕ, _+_, _≤_, _<_}
+use Prim.Native.Nat.{ℕ, _+_, _<_}
 use mathlib.Core.Path.{_≡_, refl, sym, ap, _∙_}
 use mathlib.Core.Logic.{_⊎_, inl, inr}
 use mathlib.Core.Bool.{Bool, true, false, cond}
 use mathlib.Core.List.{List, []}
 use native.Mathlib.Omega.{arith}
-use lib.Dec.{ltb, leb, lit≤}
+use lib.Dec.{ltb, leb}
 use lib.ListN.{length, getD, take, drop, length-take}
 use lib.Seq.{getD-take, getD-drop}
 use borrow.Author.Tests.{ltb-true}
 use Rattle.answers.specs.declared.Side.{Side}
 use Rattle.answers.specs.declared.Side.the-variants.{Left, Top, Right, Bottom}
 use Rattle.answers.specs.declared.Answer.{Answer}
-use Rattle.answers.specs.declared.Answer.the-variants.{Done, Size, Room, Overfull, Cut, Tag, Length, After, Spare, Shared, Count, SumAbove}
-use Rattle.answers.specs.Table.{sideNumber, overfullCode, codeOf}
+use Rattle.answers.specs.declared.Answer.the-variants.{Done, Size, Room, Overfull, Cut, Tag, Length, After, Spare, Shared, Count, SumAbove, Kind, NoneFree, NotClosed}
+use Rattle.answers.specs.Table.{sideNumber, codeOf}
 use Rattle.answers.specs.Lent.{isDone, lentAfter, roomFor}
 use Rattle.answers.proofs.Laws.{done-is}
 use Rattle.wiring.specs.Wiring.{sideSum}
@@ -29,26 +29,27 @@ use Rattle.router.specs.Router.{routeAnswer}
 use Rattle.patterns.specs.declared.PatternRead.{PatternRead}
 use Rattle.patterns.specs.Read.{part}
 use Rattle.patterns.specs.Part.{mapPart}
+use Rattle.demands.specs.Demands.{inTable}
 
-side-code : (s : Side) → overfullCode s ≤ 14
-side-code Left = lit≤ tt
-side-code Top = lit≤ tt
-side-code Right = lit≤ tt
-side-code Bottom = lit≤ tt
-
-pub code-in-table : (a : Answer) → codeOf a ≤ 14
-code-in-table Done = lit≤ tt
-code-in-table (Size size) = lit≤ tt
-code-in-table (Room needed) = lit≤ tt
-code-in-table (Overfull side sum) = side-code side
-code-in-table (Cut at) = lit≤ tt
-code-in-table (Tag at) = lit≤ tt
-code-in-table (Length at) = lit≤ tt
-code-in-table (After at) = lit≤ tt
-code-in-table Spare = lit≤ tt
-code-in-table (Shared relay) = lit≤ tt
-code-in-table (Count type) = lit≤ tt
-code-in-table (SumAbove side) = lit≤ tt
+pub code-in-table : (a : Answer) → inTable (codeOf a) ≡ true
+code-in-table Done = refl
+code-in-table (Size size) = refl
+code-in-table (Room needed) = refl
+code-in-table (Overfull Left sum) = refl
+code-in-table (Overfull Top sum) = refl
+code-in-table (Overfull Right sum) = refl
+code-in-table (Overfull Bottom sum) = refl
+code-in-table (Cut at) = refl
+code-in-table (Tag at) = refl
+code-in-table (Length at) = refl
+code-in-table (After at) = refl
+code-in-table Spare = refl
+code-in-table (Shared relay) = refl
+code-in-table (Count type) = refl
+code-in-table (SumAbove side) = refl
+code-in-table (Kind type) = refl
+code-in-table (NoneFree type) = refl
+code-in-table (NotClosed relay) = refl
 
 -- an answer that is not done
 pub not-done : (a : Answer) → (a ≡ Done → ⊥) → isDone a ≡ false

@@ -3,8 +3,9 @@
 -- call has a `requires`. (A few leaves that only our own crates call have one; docs/DECISIONS.md lists them.) Assumes nothing.
 use Prim.Native.Nat.{ℕ, _+_, _≤_, _<_}
 use mathlib.Core.Path.{_≡_}
-use mathlib.Core.Bool.{Bool}
+use mathlib.Core.Bool.{Bool, true, _&&_, _||_}
 use mathlib.Core.List.{List, [], _++_}
+use lib.Dec.{leb}
 use lib.ListN.{length, getD, take, drop}
 use Rattle.answers.specs.declared.Side.{Side}
 use Rattle.answers.specs.declared.Answer.{Answer}
@@ -38,9 +39,13 @@ Bytes s = (i : ℕ) → getD s i 0 < 256
 abbrev pub Pattern : Job → List ℕ → Type 0
 Pattern j map = Served (j .size) × IsMap (frame (j .size) .relays) map × MapCarries (frame (j .size)) (countList (j .counts)) map
 
+-- the codes that there are: 0 to 14, and 18 to 20
+abbrev pub inTable : ℕ → Bool
+inTable code = leb code 14 || leb 18 code && leb code 20
+
 -- Demand 1. A refusal gives its number from the table, and the lent room stays as it came. There is no default pattern.
 pub record Demand1 : Type 0 where
-  pub table : (a : Answer) → codeOf a ≤ 14
+  pub table : (a : Answer) → inTable (codeOf a) ≡ true
   pub router-refuses : (W : ℕ) (n : Counts) (room : List ℕ) → (routeAnswer W n room ≡ Done → ⊥) → routeRoom W n room ≡ room
   pub job-writer-refuses : (j : Job) (room : List ℕ) → (jobAnswer j room ≡ Done → ⊥) → jobRoom j room ≡ room
   pub pattern-writer-refuses : (j : Job) (map room : List ℕ) → (patternAnswer j map room ≡ Done → ⊥) → patternRoom j map room ≡ room

@@ -10,8 +10,13 @@ ghost use Rattle.jobs.specs.Read.{readJob};
 ghost use Rattle.jobs.specs.Write.{jobAnswer, jobRoom};
 ghost use Rattle.patterns.specs.Read.{readPattern};
 ghost use Rattle.patterns.specs.Write.{patternAnswer, patternRoom};
+ghost use Rattle.wiring.specs.Calls.{add, drop};
+ghost use Rattle.changes.specs.Start.{openAnswer, openRoom, startTest};
+ghost use Rattle.changes.specs.Calls.{callAnswer, callMap, addNet};
 ghost use Rattle.frame_c.specs.Job.{jobOf};
+ghost use Rattle.frame_c.specs.Relay.{relayTold};
 use answers::Answer;
+use changes::Added;
 use frame::Counts;
 use jobs::Job;
 
@@ -23,6 +28,16 @@ fn tell(answer: Answer, number: &mut u32) -> u32
 {
     *number = answers::number(answer) as u32;
     answers::code(answer)
+}
+
+// The relay that was closed; 65535, which no frame has, where none was.
+fn relay_told(added: Added) -> u16
+    ensures { λ r. ⌜ r ≡ relayTold added ⌝ }
+{
+    match added {
+        Added::Closed(relay) => relay,
+        Added::Refused(_) => 65535,
+    }
 }
 
 #[no_mangle]
@@ -182,4 +197,48 @@ pub extern "C" fn frame_write_pattern(
         patterns::write_pattern(room, Job { size, counts }, map),
         number,
     )
+}
+
+#[no_mangle]
+pub extern "C" fn frame_open_all(size: u16, room: &mut [u8], number: &mut u32) -> u32
+    ensures { λ r. ⌜ r ≡ codeOf (openAnswer size (now (room .entry))) ⌝ }
+    ensures { λ _. ⌜ now (number .exit) ≡ numberOf (openAnswer size (now (room .entry))) ⌝ }
+    ensures { λ _. ⌜ now (room .exit) ≡ openRoom size (now (room .entry)) ⌝ }
+{
+    tell(changes::open_frame(size, room), number)
+}
+
+#[no_mangle]
+pub extern "C" fn frame_check_start(size: u16, map: &[u8], number: &mut u32) -> u32
+    ensures { λ r. ⌜ r ≡ codeOf (startTest size (now (map .entry))) ⌝ }
+    ensures { λ _. ⌜ now (number .exit) ≡ numberOf (startTest size (now (map .entry))) ⌝ }
+{
+    tell(changes::test_start(size, map), number)
+}
+
+#[no_mangle]
+pub extern "C" fn frame_add_net(
+    size: u16,
+    map: &mut [u8],
+    kind: u16,
+    relay: &mut u16,
+    number: &mut u32,
+) -> u32
+    ensures { λ r. ⌜ r ≡ codeOf (callAnswer size (now (map .entry)) (add kind)) ⌝ }
+    ensures { λ _. ⌜ now (number .exit) ≡ numberOf (callAnswer size (now (map .entry)) (add kind)) ⌝ }
+    ensures { λ _. ⌜ now (relay .exit) ≡ relayTold (addNet size (now (map .entry)) kind) ⌝ }
+    ensures { λ _. ⌜ now (map .exit) ≡ callMap size (now (map .entry)) (add kind) ⌝ }
+{
+    let added = changes::add_net(size, map, kind);
+    *relay = relay_told(added);
+    tell(changes::added_answer(added), number)
+}
+
+#[no_mangle]
+pub extern "C" fn frame_drop_net(size: u16, map: &mut [u8], relay: u16, number: &mut u32) -> u32
+    ensures { λ r. ⌜ r ≡ codeOf (callAnswer size (now (map .entry)) (drop relay)) ⌝ }
+    ensures { λ _. ⌜ now (number .exit) ≡ numberOf (callAnswer size (now (map .entry)) (drop relay)) ⌝ }
+    ensures { λ _. ⌜ now (map .exit) ≡ callMap size (now (map .entry)) (drop relay) ⌝ }
+{
+    tell(changes::drop_net(size, map, relay), number)
 }

@@ -73,7 +73,7 @@ fn put_nets(room: &mut [u8], at: usize, size: u16, map: &[u8]) -> usize
     let mut next = at;
     let mut relay = 0;
     while relay < relays {
-        if frame::is_closed(map, relay) {
+        if maps::is_closed(map, relay) {
             next = put_net(room, next, size as usize, relay);
         }
         relay += 1;
@@ -89,7 +89,7 @@ fn count_closed(map: &[u8], size: u16) -> u64
     let mut nets = 0;
     let mut relay = 0;
     while relay < relays {
-        if frame::is_closed(map, relay) {
+        if maps::is_closed(map, relay) {
             nets += 1;
         }
         relay += 1;

@@ -1,3 +1,3 @@
-pub mod Marks
+pub mod Clash
 pub mod Tests
 pub mod Laws

@@ -7,12 +7,9 @@ ghost use Rattle.wiring.specs.Map.{closedIn};
 ghost use Rattle.wiring.specs.Check.{clashAt};
 ghost use Rattle.frame.specs.Leaves.{countList};
 ghost use Rattle.map_check.specs.Check.{formTest, countsTest, sumsTest, closedTest, checkMap};
-ghost use Rattle.map_check.specs.Marks.{Markable, isMarked, withMark};
 use answers::Answer;
 use frame::Counts;
 use frame::Over;
-use frame::Terminal;
-use frame::Terminals;
 
 // Codes 2 and 11: the map's length and its spare bits.
 pub fn test_form(size: u16, map: &[u8]) -> Answer
@@ -24,31 +21,12 @@ pub fn test_form(size: u16, map: &[u8]) -> Answer
     }
     let mut k = 6 * (size as usize);
     while k < 8 * needed {
-        if frame::is_closed(map, k) {
+        if maps::is_closed(map, k) {
             return Answer::Spare;
         }
         k += 1;
     }
     Answer::Done
-}
-
-// Is the terminal marked? The marks are one word for each side, with bit p - 1 for position p.
-fn is_marked(marks: [u64; 4], at: Terminal) -> bool
-    requires { ⌜ Markable at ⌝ }
-    ensures { λ r. ⌜ r ≡ isMarked marks (at .side) (at .position) ⌝ }
-{
-    (marks[at.side - 1] >> (at.position - 1)) & 1 == 1
-}
-
-// The marks with the terminal marked too.
-fn mark(marks: [u64; 4], at: Terminal) -> [u64; 4]
-    requires { ⌜ Markable at ⌝ }
-    ensures { λ r. ⌜ r ≡ withMark marks (at .side) (at .position) ⌝ }
-{
-    let mut out = marks;
-    let i = at.side - 1;
-    out[i] = out[i] | (1 << (at.position - 1));
-    out
 }
 
 // The lowest closed relay that shares a terminal with a lower closed one; the number of relays if there is none. One pass by
@@ -57,21 +35,15 @@ fn first_clash(size: usize, map: &[u8]) -> usize
     requires { ⌜ size ≤ 64 ⌝ }
     ensures { λ r. ⌜ r ≡ clashAt (frame size) (closedIn (now (map .entry))) ⌝ }
 {
-    let mut marks = [0u64; 4];
+    let mut touched = [0u64; 4];
     let mut k: usize = 0;
     while k < 6 * size {
-        if frame::is_closed(map, k) {
-            // Every relay below 6 * size has its terminals: the else is never taken.
-            let Terminals::Joined(from, to) = frame::relay_terminals(size, k) else {
-                return k;
-            };
-            if is_marked(marks, from) {
+        if maps::is_closed(map, k) {
+            if marks::relay_marked(size, touched, k) {
                 return k;
             }
-            if is_marked(marks, to) {
-                return k;
-            }
-            marks = mark(mark(marks, to), from);
+            let more = marks::mark_relay(size, touched, k);
+            touched = more;
         }
         k += 1;
     }
@@ -106,7 +78,7 @@ fn closed_of(size: usize, map: &[u8], kind: usize) -> usize
     let mut n: usize = 0;
     let mut i: usize = 0;
     while i < size {
-        if frame::is_closed(map, base + i) {
+        if maps::is_closed(map, base + i) {
             n += 1;
         }
         i += 1;

@@ -58,7 +58,7 @@ pub record Mild (W : ℕ) (m : List ℕ) (a : Answer) : Type 0 where
   pub small : numberOf a < 65536
   pub room : length m ≡ mapBytes W → codeOf a ≡ 2 → ⊥
 
-module _ (W : ℕ) (n m : List ℕ) where
+module _ (W : ℕ) (m : List ℕ) where
   of-size : W < 65536 → Mild W m (sizeTest W)
   of-size h =
       ⊎-elim (λ e. rw e (record { small = omega arith; room = λ l z. omega arith }))
@@ -81,6 +81,11 @@ module _ (W : ℕ) (n m : List ℕ) where
       go k true e = record { small = omega (arith, ltb-true k (frame W .relays) e); room = λ l z. omega arith }
       go k false e = record { small = omega arith; room = λ l z. omega arith }
 
+  pub closed-mild : W < 65536 → Mild W m (closedTest W m)
+  unfolding closedTest
+  closed-mild h = and-then (Mild W m) _ _ (of-size h) (λ d. and-then (Mild W m) _ _ (of-form (size-is W (is-done _ d) .1)) (λ x. of-shared (size-is W (is-done _ d) .1)))
+
+module _ (W : ℕ) (n m : List ℕ) where
   of-counts : Mild W m (countsTest W n m)
   unfolding countsTest
   of-counts = go (wrongType (frame W) n (closedIn m)) (leb (wrongType (frame W) n (closedIn m)) 6) refl
@@ -97,8 +102,5 @@ module _ (W : ℕ) (n m : List ℕ) where
   of-sums Nowhere = record { small = omega arith; room = λ l z. omega arith }
 
   pub check-mild : W < 65536 → Mild W m (checkMap W n m)
-  unfolding checkMap closedTest
-  check-mild h =
-      and-then (Mild W m) _ _
-      (and-then (Mild W m) _ _ (of-size h) (λ d. and-then (Mild W m) _ _ (of-form (size-is W (is-done _ d) .1)) (λ x. of-shared (size-is W (is-done _ d) .1))))
-      (λ d. and-then (Mild W m) _ _ of-counts (λ x. of-sums (firstOver W n)))
+  unfolding checkMap
+  check-mild h = and-then (Mild W m) _ _ (closed-mild W m h) (λ d. and-then (Mild W m) _ _ of-counts (λ x. of-sums (firstOver W n)))

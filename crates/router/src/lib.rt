@@ -1,9 +1,9 @@
 // The router: six counts to a relay map in a lent room, by the written choice rule.
 ghost use mathlib.Core.Path.{_≡_};
 ghost use mathlib.Core.Bool.{true};
-ghost use mathlib.Core.List.{_++_, map};
+ghost use mathlib.Core.List.{map};
 ghost use Prim.Native.Nat.{_+_, _*_, _≤_, _<_};
-ghost use lib.ListN.{length, take, drop, replicate};
+ghost use lib.ListN.{take, replicate};
 ghost use Rattle.wiring.specs.Wiring.{nets};
 ghost use Rattle.wiring.specs.Frame.{relay};
 ghost use Rattle.wiring.specs.Map.{withClosed, closeAll};
@@ -59,9 +59,9 @@ fn close_net(room: &mut [u8], w: usize, p: usize, kind: u8, high: u64)
 {
     let first = (kind as usize - 1) * w;
     if high == 0 {
-        frame::close_relay(room, first + (p - 1));
+        maps::close_relay(room, first + (p - 1));
     } else {
-        frame::close_relay(room, first + (w - p));
+        maps::close_relay(room, first + (w - p));
     }
 }
 
@@ -86,7 +86,7 @@ fn close_one(room: &mut [u8], w: usize, p: usize, n: Counts, kind: usize)
     ensures { λ _. ⌜ now (room .exit) ≡ closeAll (now (room .entry)) (replicate (nets (countList n) kind) (relay w kind p)) ⌝ }
 {
     if frame::count_at(n, kind - 1) == 1 {
-        frame::close_relay(room, (kind - 1) * w + (p - 1));
+        maps::close_relay(room, (kind - 1) * w + (p - 1));
     }
 }
 
@@ -128,18 +128,6 @@ fn close_all(room: &mut [u8], w: usize, counts: Counts)
     }
 }
 
-// Opens all relays of a map of so many bytes.
-fn clear(room: &mut [u8], bytes: usize)
-    requires { ⌜ bytes ≤ length (now room) ⌝ }
-    ensures { λ _. ⌜ now (room .exit) ≡ replicate bytes 0 ++ drop bytes (now (room .entry)) ⌝ }
-{
-    let mut i = 0;
-    while i < bytes {
-        room[i] = 0;
-        i += 1;
-    }
-}
-
 // The refusal of an overfull side; done where there is none.
 fn overfull_answer(over: Over) -> Answer
     ensures { λ r. ⌜ r ≡ overfull over ⌝ }
@@ -167,7 +155,7 @@ pub fn route(size: u16, counts: Counts, room: &mut [u8]) -> Answer
     let Over::Nowhere = over else {
         return overfull_answer(over);
     };
-    clear(room, bytes);
+    maps::clear(room, bytes);
     close_all(room, size as usize, counts);
     Answer::Done
 }

@@ -1,9 +1,11 @@
-// Runs every bench example of the scope, starred or not, and the seven vectors of document 000's Table I at size 2. Each is compared
-// with what it should be and has a line of its own; the last line says how many hold.
+// Runs every bench example of the scope, starred or not, the seven vectors of document 000's Table I at size 2, and a technician's calls
+// with item 4's own example among them. Each is compared with what it should be and has a line of its own; the last line says how many
+// hold.
 ghost use mathlib.Core.Path.{_≡_};
 ghost use lib.ListN.{getD};
 ghost use Rattle.run_examples.specs.Compare.{given, stands};
 use answers::Answer;
+use changes::Added;
 use frame::Counts;
 use libc::STDOUT_FILENO;
 
@@ -60,13 +62,18 @@ fn say_count(n: u16) {
     say_number(n as u64);
 }
 
-// Begins a line: whether the example holds, which call it is, the size and the six counts.
-fn say_call(right: bool, call: &[u8], size: u16, n: Counts) {
+// Begins a line: whether the example holds.
+fn say_right(right: bool) {
     if right {
         say(b"ok     ");
     } else {
         say(b"WRONG  ");
     }
+}
+
+// Which call it is, the size and the six counts.
+fn say_call(right: bool, call: &[u8], size: u16, n: Counts) {
+    say_right(right);
     say(call);
     say(b", size ");
     say_number(size as u64);
@@ -180,6 +187,65 @@ fn carried(tally: Tally, n: Counts) -> Tally {
     counted(tally, right)
 }
 
+// Begins a line of a call on a map of size 2.
+fn say_step(right: bool, call: &[u8], number: u16) {
+    say_right(right);
+    say(call);
+    say_count(number);
+    say(b", size 2:");
+}
+
+// Ends a line with the map that is left.
+fn say_left(map: &[u8]) {
+    say(b" leaves");
+    say_map(map);
+    say(b"\n");
+}
+
+// Does adding give this relay, or this refusal?
+fn gives(added: Added, relay: u16, code: u32, number: u64) -> bool {
+    match added {
+        Added::Closed(closed) => code == 0 && closed == relay,
+        Added::Refused(answer) => is(answer, code, number),
+    }
+}
+
+// A net of a type must close this relay, and leave this map.
+fn adds(tally: Tally, map: &mut [u8], kind: u16, relay: u16, left: &[u8]) -> Tally {
+    let added = changes::add_net(2, map, kind);
+    let right = gives(added, relay, 0, 0) && stands_in(map, left);
+    say_step(right, b"add", kind);
+    say(b" closes");
+    say_count(relay);
+    say(b" and");
+    say_left(left);
+    counted(tally, right)
+}
+
+// A net of a type must be refused with this code and the type, and the map stay as it is.
+fn adds_none(tally: Tally, map: &mut [u8], kind: u16, code: u32, left: &[u8]) -> Tally {
+    let added = changes::add_net(2, map, kind);
+    let right = gives(added, 0, code, kind as u64) && stands_in(map, left);
+    say_step(right, b"add", kind);
+    say(b" gives code ");
+    say_number(code as u64);
+    say(b" and");
+    say_left(left);
+    counted(tally, right)
+}
+
+// Dropping a relay's net must answer with this code and number, and leave this map.
+fn drops(tally: Tally, map: &mut [u8], relay: u16, code: u32, number: u64, left: &[u8]) -> Tally {
+    let answer = changes::drop_net(2, map, relay);
+    let right = is(answer, code, number) && stands_in(map, left);
+    say_step(right, b"drop", relay);
+    say(b" gives code ");
+    say_number(code as u64);
+    say(b" and");
+    say_left(left);
+    counted(tally, right)
+}
+
 fn counts(n1: u16, n2: u16, n3: u16, n4: u16, n5: u16, n6: u16) -> Counts {
     Counts {
         n1,
@@ -246,12 +312,37 @@ fn table_one(before: Tally) -> Tally {
     carried(tally, counts(0, 0, 1, 1, 1, 1))
 }
 
+// The requests' item 4, from an open frame: with relays 0 and 2 closed type 3 has none; what is freed serves again.
+fn technician(before: Tally) -> Tally {
+    let mut tally = before;
+    let mut map = [FILL; 2];
+    let opened = changes::open_frame(2, &mut map);
+    let right = is(opened, 0, 0) && stands_in(&map, b"\x00\x00");
+    say_right(right);
+    say(b"open frame, size 2");
+    say_left(b"\x00\x00");
+    tally = counted(tally, right);
+    tally = adds(tally, &mut map, 1, 0, b"\x01\x00");
+    tally = adds(tally, &mut map, 2, 2, b"\x05\x00");
+    tally = adds_none(tally, &mut map, 3, 19, b"\x05\x00");
+    tally = drops(tally, &mut map, 0, 0, 0, b"\x04\x00");
+    tally = adds(tally, &mut map, 3, 4, b"\x14\x00");
+    tally = adds(tally, &mut map, 1, 1, b"\x16\x00");
+    tally = adds_none(tally, &mut map, 0, 18, b"\x16\x00");
+    tally = adds_none(tally, &mut map, 7, 18, b"\x16\x00");
+    tally = drops(tally, &mut map, 0, 20, 0, b"\x16\x00");
+    tally = drops(tally, &mut map, 12, 20, 12, b"\x16\x00");
+    tally = drops(tally, &mut map, 4, 0, 0, b"\x06\x00");
+    adds(tally, &mut map, 1, 0, b"\x07\x00")
+}
+
 fn main() {
     let mut tally = Tally { run: 0, hold: 0 };
     tally = small_sizes(tally);
     tally = other_sizes(tally);
     tally = below_the_table(tally);
     tally = table_one(tally);
+    tally = technician(tally);
     say_number(tally.hold);
     say(b" of ");
     say_number(tally.run);

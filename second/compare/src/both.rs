@@ -19,7 +19,7 @@ pub struct Both {
     pub tally: Tally,
 }
 
-fn answer_of<T>(result: &Result<T, Refusal>) -> Answer {
+pub(crate) fn answer_of<T>(result: &Result<T, Refusal>) -> Answer {
     match *result {
         Ok(_) => Answer { code: 0, number: 0 },
         Err(Refusal { code, number }) => Answer { code, number },

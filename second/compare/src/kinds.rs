@@ -1,13 +1,14 @@
-//! The kinds of inputs that are compared.
+//! The kinds of random inputs that are compared.
 
 use crate::both::{Both, Compared};
+use crate::calls::{self, Call};
+use crate::changes::Run;
 use crate::jobs;
 use crate::maps::{self, Question};
 use crate::prng::Prng;
 use crate::records;
-use second::frame::{closed_relays, map_bytes, Counts};
+use second::frame::{map_bytes, Counts};
 use second::records::{JOB_BYTES, PATTERN_HEAD};
-use second::rule;
 
 pub struct Kind {
     pub name: &'static str,
@@ -19,7 +20,7 @@ const fn kind(name: &'static str, compare: fn(&mut Both) -> Compared) -> Kind {
 }
 
 /// A random input is of one of these.
-pub const RANDOM: [Kind; 29] = [
+pub const RANDOM: [Kind; 39] = [
     kind("route: sparse jobs", |b| route(b, jobs::sparse)),
     kind("route: uniform jobs", |b| route(b, jobs::uniform)),
     kind("route: dense jobs", |b| route(b, jobs::dense)),
@@ -65,6 +66,32 @@ pub const RANDOM: [Kind; 29] = [
     kind("write job: every room round the length", write_job),
     kind("write pattern: every room round the length", write_pattern),
     kind("write pattern: damaged maps", write_damaged),
+    kind("open all: every room round the length", open_all),
+    kind("changes: of an open frame", changes_of_open),
+    kind("changes: of maps that the router closes", |b| {
+        changes(b, maps::routed)
+    }),
+    kind("changes: of other right maps", |b| {
+        changes(b, maps::scattered)
+    }),
+    kind("refused start: spare bits set", |b| {
+        refused_start(b, maps::set_spare_bits)
+    }),
+    kind("refused start: shared terminals", |b| {
+        refused_start(b, maps::share_terminal)
+    }),
+    kind("refused start: wrong lengths", |b| {
+        refused_start(b, maps::change_length)
+    }),
+    kind("refused start: random maps", |b| {
+        refused_start(b, maps::random_bytes)
+    }),
+    kind("refused start: several faults", |b| {
+        refused_start(b, maps::several_faults)
+    }),
+    kind("refused start: sizes that are not served", |b| {
+        refused_start(b, |rng, question| question.size = jobs::unserved_size(rng))
+    }),
 ];
 
 /// None, short, just short, exact, long, or so long that eight or sixteen bits
@@ -143,63 +170,68 @@ fn write_damaged(both: &mut Both) -> Compared {
     both.write_pattern(&question, len)
 }
 
-/// Every vector with entries 0 to the highest.
-fn vectors(highest: u16) -> impl Iterator<Item = Counts> {
-    let base = u32::from(highest) + 1;
-    (0..base.pow(6)).map(move |v| std::array::from_fn(|i| (v / base.pow(i as u32) % base) as u16))
-}
-
-/// Every job of sizes 1 to 3 with counts up to one more than the size, routed
-/// with every room up to three bytes too long, written and read; its map checked.
-pub fn all_small_jobs(both: &mut Both) -> Compared {
-    for size in 1..=3 {
-        for counts in vectors(size + 1) {
-            both.tally
-                .input("all jobs of sizes 1 to 3, counts 0 to W + 1");
-            small_job(both, size, counts)?;
-        }
+fn open_all(both: &mut Both) -> Compared {
+    let size = jobs::any_size(&mut both.rng);
+    let needed = needed_for_map(size);
+    let far = room_length(&mut both.rng, needed);
+    for len in (needed.saturating_sub(4)..=needed + 4).chain([0, far]) {
+        opened(both, size, len)?;
     }
     Ok(())
 }
 
-fn small_job(both: &mut Both, size: u16, counts: Counts) -> Compared {
-    let m = map_bytes(size.into());
-    (0..=m + 3).try_for_each(|len| both.route(size, counts, len))?;
-    both.write_job(size, counts, JOB_BYTES)?;
-    let Ok(map) = rule::route(size, counts, m) else {
-        return Ok(());
-    };
-    let question = Question { size, counts, map };
-    both.check_map(&question)?;
-    both.write_pattern(&question, PATTERN_HEAD + m)
+/// All relays opened in a room of random bytes.
+fn opened(both: &mut Both, size: u16, len: usize) -> Result<Run, String> {
+    let bytes = both.rng.bytes(len);
+    let mut run = Run::holding(&mut both.rng, size, &bytes);
+    both.change(&mut run, Call::OpenAll)?;
+    Ok(run)
 }
 
-/// Every map of size 1 with all counts up to 2, and every map of size 2 with
-/// the counts of its closed relays and with none.
-pub fn all_small_maps(both: &mut Both) -> Compared {
-    for byte in 0..=255u8 {
-        for counts in vectors(2) {
-            both.tally.input("all maps of size 1, counts 0 to 2");
-            small_map(both, 1, counts, &[byte])?;
-        }
+/// Half of the frames are so small that they fill up within some calls.
+fn size_to_fill(rng: &mut Prng) -> u16 {
+    if rng.once_in(2) {
+        1 + rng.upto(7)
+    } else {
+        jobs::served_size(rng)
     }
-    for map in (0..=65535u16).map(u16::to_le_bytes) {
-        both.tally.input("all maps of size 2, own counts and none");
-        small_map(both, 2, closed_counts(&map), &map)?;
-        small_map(both, 2, [0; 6], &map)?;
+}
+
+fn changes_of_open(both: &mut Both) -> Compared {
+    let size = size_to_fill(&mut both.rng);
+    let len = room_length(&mut both.rng, needed_for_map(size));
+    let mut run = opened(both, size, len)?;
+    random_calls(both, &mut run, 60)
+}
+
+fn changes(both: &mut Both, start: fn(&mut Prng, u16) -> Question) -> Compared {
+    let size = size_to_fill(&mut both.rng);
+    let question = start(&mut both.rng, size);
+    let mut run = Run::holding(&mut both.rng, size, &question.map);
+    random_calls(both, &mut run, 60)
+}
+
+/// Each entry once, then some calls more. Where the damage did none, or after
+/// an opening, they are calls like others.
+fn refused_start(both: &mut Both, damage: fn(&mut Prng, &mut Question)) -> Compared {
+    let size = jobs::served_size(&mut both.rng);
+    let mut question = maps::right(&mut both.rng, size);
+    damage(&mut both.rng, &mut question);
+    let Question { size, map, .. } = question;
+    let mut run = Run::holding(&mut both.rng, size, &map);
+    both.change(&mut run, Call::CheckStart)?;
+    let added = Call::Add(calls::any_type(&mut both.rng));
+    both.change(&mut run, added)?;
+    let dropped = Call::Drop(calls::any_relay(&mut both.rng, size, &run.closed()));
+    both.change(&mut run, dropped)?;
+    random_calls(both, &mut run, 8)
+}
+
+fn random_calls(both: &mut Both, run: &mut Run, most: usize) -> Compared {
+    let drops = 1 + both.rng.below(4);
+    for _ in 0..1 + both.rng.below(most) {
+        let call = calls::any_call(&mut both.rng, run.size(), &run.closed(), drops);
+        both.change(run, call)?;
     }
     Ok(())
-}
-
-fn small_map(both: &mut Both, size: u16, counts: Counts, map: &[u8]) -> Compared {
-    let map = map.to_vec();
-    both.check_map(&Question { size, counts, map })
-}
-
-fn closed_counts(map: &[u8]) -> Counts {
-    let mut counts = [0; 6];
-    for relay in closed_relays(map, 2) {
-        counts[relay.kind] += 1;
-    }
-    counts
 }

@@ -2,6 +2,8 @@
 //! comparison of both answers.
 
 pub mod both;
+pub mod calls;
+pub mod changes;
 pub mod jobs;
 pub mod kinds;
 pub mod lent;
@@ -10,4 +12,5 @@ pub mod lister;
 pub mod maps;
 pub mod prng;
 pub mod records;
+pub mod small;
 pub mod tally;

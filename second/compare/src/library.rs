@@ -75,7 +75,26 @@ extern "C" {
         room_len: usize,
         number: *mut u32,
     ) -> u32;
+
+    fn frame_open_all(size: u16, room: *mut u8, room_len: usize, number: *mut u32) -> u32;
+
+    fn frame_check_start(size: u16, map: *const u8, map_len: usize, number: *mut u32) -> u32;
+
+    fn frame_add_net(
+        size: u16,
+        map: *mut u8,
+        map_len: usize,
+        net_type: u16,
+        relay: *mut u16,
+        number: *mut u32,
+    ) -> u32;
+
+    fn frame_drop_net(size: u16, map: *mut u8, map_len: usize, relay: u16, number: *mut u32)
+        -> u32;
 }
+
+/// What stands beside an add that is refused.
+pub const NO_RELAY: u16 = 65535;
 
 /// What stands where an answer is to be written, so that a number the library
 /// leaves out shows.
@@ -247,6 +266,39 @@ impl Library {
                 &mut number,
             )
         };
+        Answer { code, number }
+    }
+
+    pub fn open_all(&self, size: u16, room: &mut [u8]) -> Answer {
+        let (at, len) = (self.lend_mut(room), room.len());
+        let mut number = STALE_32;
+        // SAFETY: room and number are lent for the call and do not overlap.
+        let code = unsafe { frame_open_all(size, at, len, &mut number) };
+        Answer { code, number }
+    }
+
+    pub fn check_start(&self, size: u16, map: &[u8]) -> Answer {
+        let (at, len) = (self.lend(map), map.len());
+        let mut number = STALE_32;
+        // SAFETY: the map is only read; number does not overlap it.
+        let code = unsafe { frame_check_start(size, at, len, &mut number) };
+        Answer { code, number }
+    }
+
+    /// The answer and the relay beside it.
+    pub fn add_net(&self, size: u16, map: &mut [u8], net_type: u16) -> (Answer, u16) {
+        let (at, len) = (self.lend_mut(map), map.len());
+        let (mut relay, mut number) = (STALE_16, STALE_32);
+        // SAFETY: map, relay and number are lent for the call and do not overlap.
+        let code = unsafe { frame_add_net(size, at, len, net_type, &mut relay, &mut number) };
+        (Answer { code, number }, relay)
+    }
+
+    pub fn drop_net(&self, size: u16, map: &mut [u8], relay: u16) -> Answer {
+        let (at, len) = (self.lend_mut(map), map.len());
+        let mut number = STALE_32;
+        // SAFETY: map and number are lent for the call and do not overlap.
+        let code = unsafe { frame_drop_net(size, at, len, relay, &mut number) };
         Answer { code, number }
     }
 }

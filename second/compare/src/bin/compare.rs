@@ -2,8 +2,9 @@
 //! inputs and N random ones.
 
 use compare::both::{Both, Compared};
-use compare::kinds::{all_small_jobs, all_small_maps, RANDOM};
+use compare::kinds::RANDOM;
 use compare::lister::all_listings;
+use compare::small::{all_openings, all_small_changes, all_small_jobs, all_small_maps};
 use std::env;
 use std::process::ExitCode;
 use std::time::{SystemTime, UNIX_EPOCH};
@@ -46,6 +47,8 @@ fn clock_seed() -> u64 {
 fn compare_all(both: &mut Both, inputs: u64) -> Compared {
     all_small_jobs(both)?;
     all_small_maps(both)?;
+    all_small_changes(both)?;
+    all_openings(both)?;
     for _ in 0..inputs {
         let kind = &RANDOM[both.rng.below(RANDOM.len())];
         both.tally.input(kind.name);

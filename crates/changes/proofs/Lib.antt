@@ -1,0 +1,4 @@
+pub mod Search
+pub mod Outcomes
+pub mod Laws
+pub mod Promises

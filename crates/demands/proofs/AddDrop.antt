@@ -1,0 +1,83 @@
+-- What is promised of nets that are added and dropped one by one holds. Assumes nothing.
+use Prim.Native.Nat.{ℕ, _<_}
+use mathlib.Core.Path.{_≡_, sym, ap, _∙_}
+use mathlib.Core.List.{List}
+use native.Mathlib.Omega.{arith}
+use native.Mathlib.Decide.{decLt}
+use lib.ListN.{length, getD, List·getD-eq-default}
+use Rattle.answers.specs.declared.Answer.the-variants.{Done}
+use Rattle.answers.proofs.Laws.{is-done, both-done}
+use Rattle.wiring.specs.Frame.{frame}
+use Rattle.wiring.specs.Map.{closedIn, IsMap}
+use Rattle.wiring.proofs.Change.{apart-ext, carries-none}
+use Rattle.wiring.proofs.Map.{zeros-map, closed-zeros}
+use Rattle.wiring.proofs.Calls.{closed-stands, stands-closed}
+use Rattle.frame.specs.Leaves.{mapBytes}
+use Rattle.frame.specs.Tests.{sizeTest}
+use Rattle.frame.proofs.Tests.{size-is}
+use Rattle.router.specs.Route.{mapFor}
+use Rattle.map_check.proofs.Laws.{Closable, closed-is, is-closed-map}
+use Rattle.jobs.specs.declared.Job.{Job}
+use Rattle.changes.specs.Start.{openAnswer, openMap, openRoom}
+use Rattle.changes.specs.Calls.{callAnswer}
+use Rattle.changes.proofs.Outcomes.{map-refused}
+use Rattle.changes.proofs.Laws.{calls-closable, calls-closed}
+use Rattle.changes.proofs.Promises.{named-lowest, add-own, add-opens-none, add-no-type, taken-nineteen, not-taken-done, nineteen-taken, drop-there, drop-not-there, dropped-own, dropped-serves, dropped-carries, added-carries}
+use Rattle.demands.specs.Demands.{Bytes, Pattern}
+use Rattle.demands.specs.AddDrop.{Start, AddDrop}
+use Rattle.demands.proofs.Parts.{not-done, room-stays}
+use Rattle.demands.proofs.Demands.{routed-pattern}
+
+-- a start is a map that may be closed, and the other way
+closable : (W : ℕ) (m : List ℕ) → Start W m → Closable W m
+closable W m s = closed-is W m (λ i h. s .0 i) (is-done _ (s .1))
+
+map-bytes : (relays : ℕ) (m : List ℕ) → IsMap relays m → Bytes m
+map-bytes relays m a i = go (decLt i (length m))
+  where
+    go : Dec (i < length m) → getD m i 0 < 256
+    go (yes h) = a .bytes i h
+    go (no h) = rw (List·getD-eq-default m 0 {n = i} (omega arith)) (omega arith)
+
+starts : (W : ℕ) (m : List ℕ) → Closable W m → Start W m
+starts W m x = (map-bytes (frame W .relays) m (x .map), is-closed-map W m x)
+
+-- what carries a job may be closed
+pattern-closable : (j : Job) (m : List ℕ) → Pattern j m → Closable (j .size) m
+pattern-closable j m p = record { served = p .0; map = p .1; apart = p .2 .apart }
+
+-- the open frame
+open-closable : (W : ℕ) (room : List ℕ) → openAnswer W room ≡ Done → Closable W (openMap W)
+unfolding openAnswer
+open-closable W room e = record {
+  served = size-is W (both-done (sizeTest W) _ (is-done _ e) .0);
+  map = zeros-map (frame W .relays);
+  apart = apart-ext (frame W) _ (closedIn (openMap W)) (λ k h. sym (closed-zeros (mapBytes W) k)) (carries-none (frame W) .apart);
+}
+
+pub add-drop : AddDrop
+unfolding openRoom
+add-drop = record {
+  open-starts = λ W room e. (starts W (openMap W) (open-closable W room e), rw (is-done _ e));
+  routed-starts = λ W n room e. starts W (mapFor W n) (pattern-closable (record { size = W; counts = n }) (mapFor W n) (routed-pattern W n room e));
+  pattern-starts = λ j m p. starts (j .size) m (pattern-closable j m p);
+  opening-refused = λ W room f. room-stays (openAnswer W room) (openMap W) room f;
+  call-refused = λ W m call f. map-refused W m call (not-done (callAnswer W m call) f);
+  starts-again = λ W m calls s. starts W _ (calls-closable W m calls (closable W m s));
+  apart = λ W m calls s. calls-closable W m calls (closable W m s) .apart;
+  closed-stands = λ W m calls k s h e. closed-stands (frame W) (closedIn m) calls k h (ap (λ closed. closed k) (sym (calls-closed W m calls (closable W m s))) ∙ e);
+  stands-closed = λ W m calls k s h x. ap (λ closed. closed k) (calls-closed W m calls (closable W m s)) ∙ stands-closed (frame W) (closedIn m) calls k h x;
+  lowest = named-lowest;
+  add-own = λ W m c k s e. add-own W m (closable W m s) c k e;
+  add-opens-none = λ W m c j s e. add-opens-none W m (closable W m s) c j e;
+  type-refused = λ W m c s h. add-no-type W m (closable W m s) c h;
+  none-free = λ W m c s a b t. taken-nineteen W m (closable W m s) c a b t;
+  free-none = λ W m c s e. nineteen-taken W m (closable W m s) c e;
+  some-free = λ W m c s a b f. not-taken-done W m (closable W m s) c a b f;
+  drop-own = λ W m k s e. dropped-own W m (closable W m s) k e;
+  drop-done = λ W m k s h e. drop-there W m (closable W m s) k h e;
+  drop-refused = λ W m k s h. drop-not-there W m (closable W m s) k h;
+  freed-serves = λ W m k s e. dropped-serves W m (closable W m s) k e;
+  add-carries = λ W m n c k s l y e. added-carries W m (closable W m s) n c k l y e;
+  drop-carries = λ W m n k s l y e. dropped-carries W m (closable W m s) k e n l y;
+}

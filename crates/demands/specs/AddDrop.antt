@@ -1,0 +1,66 @@
+-- What is promised of nets that are added and dropped one by one (requests, item 4), over the definitions that the contracts cite. Proved
+-- in proofs/AddDrop.antt. The three demands stay as they are, for whole jobs. Assumes nothing.
+use Prim.Native.Nat.{ℕ, suc, _-_, _≤_, _<_}
+use mathlib.Core.Path.{_≡_}
+use mathlib.Core.Logic.{_≢_}
+use mathlib.Core.Bool.{true, false}
+use mathlib.Core.List.{List}
+use lib.ListN.{length, set}
+use Rattle.answers.specs.declared.Answer.the-variants.{Done, Kind, NoneFree, NotClosed}
+use Rattle.answers.specs.Lent.{over}
+use Rattle.wiring.specs.Wiring.{nets, Apart}
+use Rattle.wiring.specs.Frame.{frame}
+use Rattle.wiring.specs.Map.{closedIn, MapCarries}
+use Rattle.wiring.specs.Change.{Taken, LowestFree}
+use Rattle.wiring.specs.Calls.{Call, add, drop, Stands}
+use Rattle.frame.specs.declared.Counts.{Counts}
+use Rattle.router.specs.Route.{mapFor}
+use Rattle.router.specs.Router.{routeAnswer}
+use Rattle.jobs.specs.declared.Job.{Job}
+use Rattle.changes.specs.declared.Added.the-variants.{Closed}
+use Rattle.changes.specs.Start.{openAnswer, openMap, openRoom, startTest}
+use Rattle.changes.specs.Calls.{callAnswer, callMap, callsMap, addNet}
+use Rattle.demands.specs.Demands.{Bytes, Pattern}
+
+-- a map from which one may start
+abbrev pub Start : ℕ → List ℕ → Type 0
+Start W m = Bytes m × (startTest W m ≡ Done)
+
+-- every relay of type c has a taken terminal
+abbrev pub AllTaken : ℕ → List ℕ → ℕ → Type 0
+AllTaken W m c = (k : ℕ) → k < frame W .relays → frame W .typeOf k ≡ c → Taken (frame W) (closedIn m) k
+
+pub record AddDrop : Type 0 where
+  -- one may start from an open frame, from what the router gives, and from the map of a pattern
+  pub open-starts : (W : ℕ) (room : List ℕ) → openAnswer W room ≡ Done → Start W (openMap W) × (openRoom W room ≡ over (openMap W) room)
+  pub routed-starts : (W : ℕ) (n : Counts) (room : List ℕ) → routeAnswer W n room ≡ Done → Start W (mapFor W n)
+  pub pattern-starts : (j : Job) (m : List ℕ) → Pattern j m → Start (j .size) m
+  -- refused calls change nothing
+  pub opening-refused : (W : ℕ) (room : List ℕ) → (openAnswer W room ≡ Done → ⊥) → openRoom W room ≡ room
+  pub call-refused : (W : ℕ) (m : List ℕ) (call : Call) → (callAnswer W m call ≡ Done → ⊥) → callMap W m call ≡ m
+  -- after any sequence of calls one may start again, no terminal is used twice, and the closed relays are those closed at the start or
+  -- added, and not dropped since their last closing
+  pub starts-again : (W : ℕ) (m : List ℕ) (calls : List Call) → Start W m → Start W (callsMap W m calls)
+  pub apart : (W : ℕ) (m : List ℕ) (calls : List Call) → Start W m → Apart (frame W) (closedIn (callsMap W m calls))
+  pub closed-stands : (W : ℕ) (m : List ℕ) (calls : List Call) (k : ℕ) → Start W m → k < frame W .relays → closedIn (callsMap W m calls) k ≡ true → Stands (frame W) (closedIn m) calls k
+  pub stands-closed : (W : ℕ) (m : List ℕ) (calls : List Call) (k : ℕ) → Start W m → k < frame W .relays → Stands (frame W) (closedIn m) calls k → closedIn (callsMap W m calls) k ≡ true
+  -- adding closes the lowest-numbered free relay of the type, and no other; it opens none
+  pub lowest : (W : ℕ) (m : List ℕ) (c k : ℕ) → addNet W m c ≡ Closed k → LowestFree (frame W) (closedIn m) c k
+  pub add-own : (W : ℕ) (m : List ℕ) (c k : ℕ) → Start W m → addNet W m c ≡ Closed k → (closedIn (callMap W m (add c)) k ≡ true) × ((j : ℕ) → j ≢ k → closedIn (callMap W m (add c)) j ≡ closedIn m j)
+  pub add-opens-none : (W : ℕ) (m : List ℕ) (c j : ℕ) → Start W m → closedIn m j ≡ true → closedIn (callMap W m (add c)) j ≡ true
+  -- it is refused exactly if the type is not there, or has no relay with both terminals free
+  pub type-refused : (W : ℕ) (m : List ℕ) (c : ℕ) → Start W m → (1 ≤ c → c ≤ 6 → ⊥) → callAnswer W m (add c) ≡ Kind c
+  pub none-free : (W : ℕ) (m : List ℕ) (c : ℕ) → Start W m → 1 ≤ c → c ≤ 6 → AllTaken W m c → callAnswer W m (add c) ≡ NoneFree c
+  pub free-none : (W : ℕ) (m : List ℕ) (c : ℕ) → Start W m → callAnswer W m (add c) ≡ NoneFree c → AllTaken W m c
+  pub some-free : (W : ℕ) (m : List ℕ) (c : ℕ) → Start W m → 1 ≤ c → c ≤ 6 → (AllTaken W m c → ⊥) → callAnswer W m (add c) ≡ Done
+  -- dropping opens its own relay, and no other; it is refused exactly if that relay is not there or not closed
+  pub drop-own : (W : ℕ) (m : List ℕ) (k : ℕ) → Start W m → callAnswer W m (drop k) ≡ Done → (closedIn (callMap W m (drop k)) k ≡ false) × ((j : ℕ) → j ≢ k → closedIn (callMap W m (drop k)) j ≡ closedIn m j)
+  pub drop-done : (W : ℕ) (m : List ℕ) (k : ℕ) → Start W m → k < frame W .relays → closedIn m k ≡ true → callAnswer W m (drop k) ≡ Done
+  pub drop-refused : (W : ℕ) (m : List ℕ) (k : ℕ) → Start W m → (k < frame W .relays → closedIn m k ≡ true → ⊥) → callAnswer W m (drop k) ≡ NotClosed k
+  -- room that was freed serves again
+  pub freed-serves : (W : ℕ) (m : List ℕ) (k : ℕ) → Start W m → callAnswer W m (drop k) ≡ Done → callAnswer W (callMap W m (drop k)) (add (frame W .typeOf k)) ≡ Done
+  -- where the map carried a job, it carries one net more or one net less
+  pub add-carries : (W : ℕ) (m n : List ℕ) (c k : ℕ) → Start W m → length n ≡ 6 → MapCarries (frame W) n m → addNet W m c ≡ Closed k
+      → MapCarries (frame W) (set n (c - 1) (suc (nets n c))) (callMap W m (add c))
+  pub drop-carries : (W : ℕ) (m n : List ℕ) (k : ℕ) → Start W m → length n ≡ 6 → MapCarries (frame W) n m → callAnswer W m (drop k) ≡ Done
+      → let c = frame W .typeOf k in MapCarries (frame W) (set n (c - 1) (nets n c - 1)) (callMap W m (drop k))
