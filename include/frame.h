@@ -47,6 +47,7 @@ enum frame_code {
     FRAME_SHARED = 12,      /* the lowest closed relay that shares a terminal with a lower-numbered closed one */
     FRAME_COUNT = 13,       /* the first type whose closed relays are not as many as its count */
     FRAME_SUM_ABOVE = 14,   /* map check: a side sum above the size: the side, 1 to 4 for L, T, R, B */
+                            /* 15 to 17 are not in use */
     FRAME_TYPE = 18,        /* add: type not 1 to 6: the type */
     FRAME_NONE_FREE = 19,   /* add: no relay of the type has both its terminals free: the type */
     FRAME_NOT_CLOSED = 20   /* drop: the relay is not closed, or no relay has that number: that number */

@@ -11,7 +11,7 @@ use borrow.Author.Tests.{ltb-true, leb-true, lt-ltb, le-ltb, le-leb, lt-leb}
 use Rattle.answers.specs.declared.Answer.{Answer}
 use Rattle.answers.specs.declared.Answer.the-variants.{Done, Room, Kind, NoneFree, NotClosed}
 use Rattle.answers.specs.Lent.{isDone}
-use Rattle.answers.proofs.Laws.{done-is, is-done, both-done}
+use Rattle.answers.proofs.Laws.{done-is, is-done, first-refused, both-done}
 use Rattle.wiring.specs.Map.{closedIn, withClosed, withOpen}
 use Rattle.wiring.specs.Calls.{Call, add, drop}
 use Rattle.wiring.proofs.Bools.{and-parts}
@@ -27,6 +27,12 @@ use Rattle.changes.specs.Calls.{typeTest, relayFor, freeTest, dropTest, 
 pub start-served : (W : ℕ) (m : List ℕ) → startTest W m ≡ Done → (1 ≤ W) × (W ≤ 64)
 unfolding closedTest
 start-served W m e = size-is W (both-done (sizeTest W) _ (is-done _ e) .0)
+
+-- a start that does not pass is every call's answer
+pub start-first : (W : ℕ) (m : List ℕ) (call : Call) → isDone (startTest W m) ≡ false → callAnswer W m call ≡ startTest W m
+unfolding callAnswer
+start-first W m (add c) e = first-refused (startTest W m) _ e
+start-first W m (drop k) e = first-refused (startTest W m) _ e
 
 -- types 1 to 6
 pub type-there : (c : ℕ) → 1 ≤ c → c ≤ 6 → Done ≡ typeTest c

@@ -16,12 +16,12 @@ use Rattle.answers.proofs.Laws.{done-is, is-done, both-done}
 use Rattle.wiring.specs.Wiring.{nets}
 use Rattle.wiring.specs.Frame.{frame}
 use Rattle.wiring.specs.Map.{closedIn, MapCarries}
-use Rattle.wiring.specs.Change.{Taken, LowestFree}
+use Rattle.wiring.specs.Change.{Free, Taken, LowestFree}
 use Rattle.wiring.specs.Calls.{Call, add, drop, granted}
 use Rattle.wiring.proofs.Bools.{fails, and-both, and-parts, or-left, clear}
 use Rattle.wiring.proofs.Frame.{frame-proper}
 use Rattle.wiring.proofs.Change.{carries-more, carries-less}
-use Rattle.wiring.proofs.Free.{lowest-is, none-free, all-taken}
+use Rattle.wiring.proofs.Free.{lowest-is, none-free, all-taken, opened-free}
 use Rattle.wiring.proofs.Calls.{after-granted, add-others, drop-own, drop-others, add-keeps, freed-serves}
 use Rattle.map_check.proofs.Laws.{Closable, is-closed-map}
 use Rattle.changes.specs.declared.Added.the-variants.{Closed, Refused}
@@ -123,6 +123,10 @@ module _ (W : ℕ) (m : List ℕ) (x : Closable W m) where
 
     pub dropped-own : (closedIn (callMap W m (drop k)) k ≡ false) × ((j : ℕ) → j ≢ k → closedIn (callMap W m (drop k)) j ≡ closedIn m j)
     dropped-own = rw (call-closed W m x (drop k)) (drop-own (frame W) (closedIn m) k (there .0), λ j d. drop-others (frame W) (closedIn m) k j d)
+
+    -- its terminals are free
+    pub dropped-free : Free (frame W) (closedIn (callMap W m (drop k))) k
+    dropped-free = rw (call-closed W m x (drop k), after-granted (frame W) (closedIn m) (drop k) (done-is-granted (drop k) e)) (opened-free (frame W) (closedIn m) k (x .apart) (there .0) (there .1))
 
     -- room that was freed serves again
     pub dropped-serves : callAnswer W (callMap W m (drop k)) (add (frame W .typeOf k)) ≡ Done

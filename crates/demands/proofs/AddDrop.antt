@@ -18,11 +18,11 @@ use Rattle.frame.proofs.Tests.{size-is}
 use Rattle.router.specs.Route.{mapFor}
 use Rattle.map_check.proofs.Laws.{Closable, closed-is, is-closed-map}
 use Rattle.jobs.specs.declared.Job.{Job}
-use Rattle.changes.specs.Start.{openAnswer, openMap, openRoom}
+use Rattle.changes.specs.Start.{openAnswer, openMap, openRoom, startTest}
 use Rattle.changes.specs.Calls.{callAnswer}
-use Rattle.changes.proofs.Outcomes.{map-refused}
+use Rattle.changes.proofs.Outcomes.{start-first, added-answer, map-refused}
 use Rattle.changes.proofs.Laws.{calls-closable, calls-closed}
-use Rattle.changes.proofs.Promises.{named-lowest, add-own, add-opens-none, add-no-type, taken-nineteen, not-taken-done, nineteen-taken, drop-there, drop-not-there, dropped-own, dropped-serves, dropped-carries, added-carries}
+use Rattle.changes.proofs.Promises.{named-lowest, add-own, add-opens-none, add-no-type, taken-nineteen, not-taken-done, nineteen-taken, drop-there, drop-not-there, dropped-own, dropped-free, dropped-serves, dropped-carries, added-carries}
 use Rattle.demands.specs.Demands.{Bytes, Pattern}
 use Rattle.demands.specs.AddDrop.{Start, AddDrop}
 use Rattle.demands.proofs.Parts.{not-done, room-stays}
@@ -61,6 +61,8 @@ add-drop = record {
   open-starts = λ W room e. (starts W (openMap W) (open-closable W room e), rw (is-done _ e));
   routed-starts = λ W n room e. starts W (mapFor W n) (pattern-closable (record { size = W; counts = n }) (mapFor W n) (routed-pattern W n room e));
   pattern-starts = λ j m p. starts (j .size) m (pattern-closable j m p);
+  start-refused = λ W m call f. start-first W m call (not-done (startTest W m) f);
+  added = added-answer;
   opening-refused = λ W room f. room-stays (openAnswer W room) (openMap W) room f;
   call-refused = λ W m call f. map-refused W m call (not-done (callAnswer W m call) f);
   starts-again = λ W m calls s. starts W _ (calls-closable W m calls (closable W m s));
@@ -77,6 +79,7 @@ add-drop = record {
   drop-own = λ W m k s e. dropped-own W m (closable W m s) k e;
   drop-done = λ W m k s h e. drop-there W m (closable W m s) k h e;
   drop-refused = λ W m k s h. drop-not-there W m (closable W m s) k h;
+  freed = λ W m k s e. dropped-free W m (closable W m s) k e;
   freed-serves = λ W m k s e. dropped-serves W m (closable W m s) k e;
   add-carries = λ W m n c k s l y e. added-carries W m (closable W m s) n c k l y e;
   drop-carries = λ W m n k s l y e. dropped-carries W m (closable W m s) k e n l y;

@@ -11,7 +11,7 @@ use Rattle.answers.specs.Lent.{over}
 use Rattle.wiring.specs.Wiring.{nets, Apart}
 use Rattle.wiring.specs.Frame.{frame}
 use Rattle.wiring.specs.Map.{closedIn, MapCarries}
-use Rattle.wiring.specs.Change.{Taken, LowestFree}
+use Rattle.wiring.specs.Change.{Free, Taken, LowestFree}
 use Rattle.wiring.specs.Calls.{Call, add, drop, Stands}
 use Rattle.frame.specs.declared.Counts.{Counts}
 use Rattle.router.specs.Route.{mapFor}
@@ -19,7 +19,7 @@ use Rattle.router.specs.Router.{routeAnswer}
 use Rattle.jobs.specs.declared.Job.{Job}
 use Rattle.changes.specs.declared.Added.the-variants.{Closed}
 use Rattle.changes.specs.Start.{openAnswer, openMap, openRoom, startTest}
-use Rattle.changes.specs.Calls.{callAnswer, callMap, callsMap, addNet}
+use Rattle.changes.specs.Calls.{callAnswer, callMap, callsMap, addNet, addedAnswer}
 use Rattle.demands.specs.Demands.{Bytes, Pattern}
 
 -- a map from which one may start
@@ -35,6 +35,9 @@ pub record AddDrop : Type 0 where
   pub open-starts : (W : ℕ) (room : List ℕ) → openAnswer W room ≡ Done → Start W (openMap W) × (openRoom W room ≡ over (openMap W) room)
   pub routed-starts : (W : ℕ) (n : Counts) (room : List ℕ) → routeAnswer W n room ≡ Done → Start W (mapFor W n)
   pub pattern-starts : (j : Job) (m : List ℕ) → Pattern j m → Start (j .size) m
+  -- each call makes the start's tests first, and what adding gives has the call's answer
+  pub start-refused : (W : ℕ) (m : List ℕ) (call : Call) → (startTest W m ≡ Done → ⊥) → callAnswer W m call ≡ startTest W m
+  pub added : (W : ℕ) (m : List ℕ) (c : ℕ) → addedAnswer (addNet W m c) ≡ callAnswer W m (add c)
   -- refused calls change nothing
   pub opening-refused : (W : ℕ) (room : List ℕ) → (openAnswer W room ≡ Done → ⊥) → openRoom W room ≡ room
   pub call-refused : (W : ℕ) (m : List ℕ) (call : Call) → (callAnswer W m call ≡ Done → ⊥) → callMap W m call ≡ m
@@ -57,7 +60,8 @@ pub record AddDrop : Type 0 where
   pub drop-own : (W : ℕ) (m : List ℕ) (k : ℕ) → Start W m → callAnswer W m (drop k) ≡ Done → (closedIn (callMap W m (drop k)) k ≡ false) × ((j : ℕ) → j ≢ k → closedIn (callMap W m (drop k)) j ≡ closedIn m j)
   pub drop-done : (W : ℕ) (m : List ℕ) (k : ℕ) → Start W m → k < frame W .relays → closedIn m k ≡ true → callAnswer W m (drop k) ≡ Done
   pub drop-refused : (W : ℕ) (m : List ℕ) (k : ℕ) → Start W m → (k < frame W .relays → closedIn m k ≡ true → ⊥) → callAnswer W m (drop k) ≡ NotClosed k
-  -- room that was freed serves again
+  -- room that was freed serves again: both terminals of the dropped relay are free, and a net of its type is added
+  pub freed : (W : ℕ) (m : List ℕ) (k : ℕ) → Start W m → callAnswer W m (drop k) ≡ Done → Free (frame W) (closedIn (callMap W m (drop k))) k
   pub freed-serves : (W : ℕ) (m : List ℕ) (k : ℕ) → Start W m → callAnswer W m (drop k) ≡ Done → callAnswer W (callMap W m (drop k)) (add (frame W .typeOf k)) ≡ Done
   -- where the map carried a job, it carries one net more or one net less
   pub add-carries : (W : ℕ) (m n : List ℕ) (c k : ℕ) → Start W m → length n ≡ 6 → MapCarries (frame W) n m → addNet W m c ≡ Closed k
