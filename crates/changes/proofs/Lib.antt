@@ -1,4 +1,5 @@
 pub mod Search
+pub mod Answers
 pub mod Outcomes
 pub mod Laws
 pub mod Promises

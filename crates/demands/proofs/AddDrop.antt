@@ -20,9 +20,10 @@ use Rattle.map_check.proofs.Laws.{Closable, closed-is, is-closed-map}
 use Rattle.jobs.specs.declared.Job.{Job}
 use Rattle.changes.specs.Start.{openAnswer, openMap, openRoom, startTest}
 use Rattle.changes.specs.Calls.{callAnswer}
-use Rattle.changes.proofs.Outcomes.{start-first, added-answer, map-refused}
+use Rattle.changes.proofs.Answers.{start-first, drop-not-there, drop-granted}
+use Rattle.changes.proofs.Outcomes.{added-answer, map-refused}
 use Rattle.changes.proofs.Laws.{calls-closable, calls-closed}
-use Rattle.changes.proofs.Promises.{named-lowest, add-own, add-opens-none, add-no-type, taken-nineteen, not-taken-done, nineteen-taken, drop-there, drop-not-there, dropped-own, dropped-free, dropped-serves, dropped-carries, added-carries}
+use Rattle.changes.proofs.Promises.{named-lowest, add-own, add-opens-none, add-no-type, taken-nineteen, not-taken-done, nineteen-taken, dropped-own, dropped-free, dropped-serves, dropped-carries, added-carries}
 use Rattle.demands.specs.Demands.{Bytes, Pattern}
 use Rattle.demands.specs.AddDrop.{Start, AddDrop}
 use Rattle.demands.proofs.Parts.{not-done, room-stays}
@@ -77,8 +78,8 @@ add-drop = record {
   free-none = λ W m c s e. nineteen-taken W m (closable W m s) c e;
   some-free = λ W m c s a b f. not-taken-done W m (closable W m s) c a b f;
   drop-own = λ W m k s e. dropped-own W m (closable W m s) k e;
-  drop-done = λ W m k s h e. drop-there W m (closable W m s) k h e;
-  drop-refused = λ W m k s h. drop-not-there W m (closable W m s) k h;
+  drop-done = λ W m k s h e. drop-granted W m (s .1) k h e;
+  drop-refused = λ W m k s h. drop-not-there W m (s .1) k h;
   freed = λ W m k s e. dropped-free W m (closable W m s) k e;
   freed-serves = λ W m k s e. dropped-serves W m (closable W m s) k e;
   add-carries = λ W m n c k s l y e. added-carries W m (closable W m s) n c k l y e;

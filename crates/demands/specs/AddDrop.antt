@@ -11,7 +11,7 @@ use Rattle.answers.specs.Lent.{over}
 use Rattle.wiring.specs.Wiring.{nets, Apart}
 use Rattle.wiring.specs.Frame.{frame}
 use Rattle.wiring.specs.Map.{closedIn, MapCarries}
-use Rattle.wiring.specs.Change.{Free, Taken, LowestFree}
+use Rattle.wiring.specs.Change.{Free, AllTaken, LowestFree}
 use Rattle.wiring.specs.Calls.{Call, add, drop, Stands}
 use Rattle.frame.specs.declared.Counts.{Counts}
 use Rattle.router.specs.Route.{mapFor}
@@ -25,10 +25,6 @@ use Rattle.demands.specs.Demands.{Bytes, Pattern}
 -- a map from which one may start
 abbrev pub Start : ℕ → List ℕ → Type 0
 Start W m = Bytes m × (startTest W m ≡ Done)
-
--- every relay of type c has a taken terminal
-abbrev pub AllTaken : ℕ → List ℕ → ℕ → Type 0
-AllTaken W m c = (k : ℕ) → k < frame W .relays → frame W .typeOf k ≡ c → Taken (frame W) (closedIn m) k
 
 pub record AddDrop : Type 0 where
   -- one may start from an open frame, from what the router gives, and from the map of a pattern
@@ -53,9 +49,9 @@ pub record AddDrop : Type 0 where
   pub add-opens-none : (W : ℕ) (m : List ℕ) (c j : ℕ) → Start W m → closedIn m j ≡ true → closedIn (callMap W m (add c)) j ≡ true
   -- it is refused exactly if the type is not there, or has no relay with both terminals free
   pub type-refused : (W : ℕ) (m : List ℕ) (c : ℕ) → Start W m → (1 ≤ c → c ≤ 6 → ⊥) → callAnswer W m (add c) ≡ Kind c
-  pub none-free : (W : ℕ) (m : List ℕ) (c : ℕ) → Start W m → 1 ≤ c → c ≤ 6 → AllTaken W m c → callAnswer W m (add c) ≡ NoneFree c
-  pub free-none : (W : ℕ) (m : List ℕ) (c : ℕ) → Start W m → callAnswer W m (add c) ≡ NoneFree c → AllTaken W m c
-  pub some-free : (W : ℕ) (m : List ℕ) (c : ℕ) → Start W m → 1 ≤ c → c ≤ 6 → (AllTaken W m c → ⊥) → callAnswer W m (add c) ≡ Done
+  pub none-free : (W : ℕ) (m : List ℕ) (c : ℕ) → Start W m → 1 ≤ c → c ≤ 6 → AllTaken (frame W) (closedIn m) c → callAnswer W m (add c) ≡ NoneFree c
+  pub free-none : (W : ℕ) (m : List ℕ) (c : ℕ) → Start W m → callAnswer W m (add c) ≡ NoneFree c → AllTaken (frame W) (closedIn m) c
+  pub some-free : (W : ℕ) (m : List ℕ) (c : ℕ) → Start W m → 1 ≤ c → c ≤ 6 → (AllTaken (frame W) (closedIn m) c → ⊥) → callAnswer W m (add c) ≡ Done
   -- dropping opens its own relay, and no other; it is refused exactly if that relay is not there or not closed
   pub drop-own : (W : ℕ) (m : List ℕ) (k : ℕ) → Start W m → callAnswer W m (drop k) ≡ Done → (closedIn (callMap W m (drop k)) k ≡ false) × ((j : ℕ) → j ≢ k → closedIn (callMap W m (drop k)) j ≡ closedIn m j)
   pub drop-done : (W : ℕ) (m : List ℕ) (k : ℕ) → Start W m → k < frame W .relays → closedIn m k ≡ true → callAnswer W m (drop k) ≡ Done

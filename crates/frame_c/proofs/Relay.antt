@@ -1,7 +1,7 @@
 -- The number beside a refused add names no relay: to drop it is refused at every start, so that a net is never opened by mistake for one
 -- that was not added. Assumes nothing.
 use Prim.Native.Nat.{ℕ}
-use mathlib.Core.Path.{_≡_, sym}
+use mathlib.Core.Path.{_≡_}
 use mathlib.Core.List.{List}
 use native.Mathlib.Omega.{arith}
 use Rattle.answers.specs.declared.Answer.{Answer}
@@ -10,8 +10,8 @@ use Rattle.wiring.specs.Calls.{drop}
 use Rattle.changes.specs.declared.Added.the-variants.{Refused}
 use Rattle.changes.specs.Start.{startTest}
 use Rattle.changes.specs.Calls.{callAnswer}
-use Rattle.changes.proofs.Outcomes.{start-served, drop-past}
+use Rattle.changes.proofs.Answers.{start-served, drop-not-there}
 use Rattle.frame_c.specs.Relay.{relayTold}
 
 pub never-dropped : (W : ℕ) (m : List ℕ) (a : Answer) → startTest W m ≡ Done → callAnswer W m (drop (relayTold (Refused a))) ≡ NotClosed (relayTold (Refused a))
-never-dropped W m a s = sym (drop-past W m 65535 s (omega (arith, start-served W m s .1)) .0)
+never-dropped W m a s = drop-not-there W m s 65535 (λ h c. omega (arith, start-served W m s .1))

@@ -6,7 +6,8 @@ use Rattle.answers.specs.declared.Answer.the-variants.{Done}
 use Rattle.answers.proofs.Laws.{else-refused}
 use Rattle.changes.specs.Start.{startTest}
 use Rattle.changes.specs.Calls.{typeTest}
-use Rattle.changes.proofs.Outcomes.{start-served, type-is, add-start, add-type, add-none, add-done}
+use Rattle.changes.proofs.Answers.{start-served, type-is}
+use Rattle.changes.proofs.Outcomes.{add-start, add-type, add-none, add-done}
 use Rattle.changes.proofs.add_net.Statement.{statement}
 use Rattle.changes.proofs.add_net.Tie as tie
 
