@@ -14,7 +14,9 @@ use Rattle.map_check.specs.Check.{formTest, sharedTest, closedTest}
 use Rattle.loads.specs.Table.{table, row}
 use Rattle.loads.specs.Load.{within, atMost, fits, pick, load}
 use Rattle.loads.specs.Seat.{netList, seats, touched, seatFits, seatOf, seating}
-use Rattle.router.specs.Route.{spread, centre, route, relaysFor, mapFor}
+use Rattle.cells.specs.Cells.{size, capacity, run, cells}
+use Rattle.cells.specs.Serve.{spread, centre, takes, seatedIn, serve}
+use Rattle.router.specs.Route.{relaysFor, mapFor}
 use Rattle.router.specs.Router.{routeAnswer}
 use Rattle.changes.specs.Start.{openMap}
 use Rattle.changes.specs.Calls.{typeTest, freeTest, dropTest, callAnswer, callMap, addNet}
@@ -33,5 +35,5 @@ none-for-type-three = (refl, refl, tt)
 
 -- and the job with that net more is one that the router carries, by other relays
 pub carried-otherwise : (routeAnswer 2 (counts 1 1 1 0 0 0) room ≡ Done) × (mapFor 2 (counts 1 1 1 0 0 0) ≡ 0x29 ∷ 0x00 ∷ [])
-unfolding routeAnswer mapFor relaysFor route centre spread seating seatOf seatFits touched seats netList load pick fits atMost within row table firstOver sizeTest closeAll withClosed closedIn placeIn typeIn distinct among anyBelow firstFrom sumTo count
+unfolding routeAnswer mapFor relaysFor serve seatedIn takes cells run capacity size centre spread seating seatOf seatFits touched seats netList load pick fits atMost within row table firstOver sizeTest closeAll withClosed closedIn placeIn typeIn distinct among anyBelow firstFrom sumTo count
 carried-otherwise = (refl, refl)

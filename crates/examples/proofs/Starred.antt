@@ -18,7 +18,9 @@ use Rattle.frame.specs.Tests.{sizeTest, firstOver}
 use Rattle.loads.specs.Table.{table, row}
 use Rattle.loads.specs.Load.{within, atMost, fits, pick, load}
 use Rattle.loads.specs.Seat.{netList, seats, touched, seatFits, seatOf, seating}
-use Rattle.router.specs.Route.{spread, centre, route, relaysFor, mapFor}
+use Rattle.cells.specs.Cells.{size, capacity, run, cells}
+use Rattle.cells.specs.Serve.{spread, centre, takes, seatedIn, serve}
+use Rattle.router.specs.Route.{relaysFor, mapFor}
 use Rattle.router.specs.Router.{routeAnswer, routeRoom}
 use Rattle.map_check.specs.Check.{formTest, sharedTest, countsTest, closedTest, checkMap}
 use Rattle.examples.specs.Starred.{Example, Holds, answerOf, lentOf, starred}
@@ -73,7 +75,7 @@ all-hold (e ∷ es) t (suc i) h other = all-hold es (and-parts (holds e) (allHol
 
 -- the computed test
 passes : allHold starred ≡ true
-unfolding allHold holds same starred routeRoom routeAnswer mapFor relaysFor route centre spread seating seatOf seatFits touched seats netList load pick fits atMost within row table firstOver sizeTest checkMap closedTest countsTest sharedTest formTest wrongType clashAt clashes shares spareSet closeAll withClosed closedIn placeIn typeIn distinct among anyBelow firstFrom sumTo count
+unfolding allHold holds same starred routeRoom routeAnswer mapFor relaysFor serve seatedIn takes cells run capacity size centre spread seating seatOf seatFits touched seats netList load pick fits atMost within row table firstOver sizeTest checkMap closedTest countsTest sharedTest formTest wrongType clashAt clashes shares spareSet closeAll withClosed closedIn placeIn typeIn distinct among anyBelow firstFrom sumTo count
 passes = refl
 
 -- The single statement: each example of the list, counted from 0, holds. `other` stands for what would be past the end.

@@ -11,7 +11,9 @@ use Rattle.jobs.specs.Read.{readHead, readJob}
 use Rattle.loads.specs.Table.{table, row}
 use Rattle.loads.specs.Load.{within, atMost, fits, pick, load}
 use Rattle.loads.specs.Seat.{netList, seats, touched, seatFits, seatOf, seating}
-use Rattle.router.specs.Route.{spread, centre, route, relaysFor, mapFor}
+use Rattle.cells.specs.Cells.{size, capacity, run, cells}
+use Rattle.cells.specs.Serve.{spread, centre, takes, seatedIn, serve}
+use Rattle.router.specs.Route.{relaysFor, mapFor}
 use Rattle.router.specs.Router.{routeAnswer}
 use Rattle.text.specs.Decimal.{decimalIn, decimal}
 use Rattle.listing.specs.Lines.{terminalText, netLine, netLines, sizeLine, mapText, refusedText}
@@ -23,7 +25,7 @@ pub worked-example : textOf (0x01 ∷ 0x00 ∷ 0x01 ∷ 0x02 ∷ 0x02 ∷ 0x00 �
     ∷ 49 ∷ 32 ∷ 76 ∷ 49 ∷ 32 ∷ 82 ∷ 50 ∷ 10
     ∷ 51 ∷ 32 ∷ 76 ∷ 50 ∷ 32 ∷ 84 ∷ 49 ∷ 10
     ∷ 52 ∷ 32 ∷ 84 ∷ 50 ∷ 32 ∷ 82 ∷ 49 ∷ 10 ∷ []
-unfolding textOf jobText mapText sizeLine netLines netLine terminalText refusedText decimal decimalIn readJob readHead fieldAt sizeTest firstOver routeAnswer mapFor relaysFor route centre spread seating seatOf seatFits touched seats netList load pick fits atMost within row table closedIn withClosed closeAll typeIn placeIn among distinct count sumTo firstFrom
+unfolding textOf jobText mapText sizeLine netLines netLine terminalText refusedText decimal decimalIn readJob readHead fieldAt sizeTest firstOver routeAnswer mapFor relaysFor serve seatedIn takes cells run capacity size centre spread seating seatOf seatFits touched seats netList load pick fits atMost within row table closedIn withClosed closeAll typeIn placeIn among distinct count sumTo firstFrom
 worked-example = refl
 
 -- REFUSED 7 0

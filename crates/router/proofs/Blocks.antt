@@ -21,7 +21,7 @@ use Rattle.loads.proofs.Counts.{Within}
 use Rattle.loads.proofs.Seats.{row-known}
 use Rattle.loads.proofs.Trial as Trial
 use Rattle.router.specs.declared.Seated.{Seated}
-use Rattle.router.specs.Route.{lowHigh, spread}
+use Rattle.cells.specs.Serve.{lowHigh, spread}
 use Rattle.router.specs.Seated.{Nets, SeatedRow}
 
 -- the product in a relay's number stays below six sizes

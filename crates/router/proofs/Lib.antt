@@ -1,6 +1,3 @@
-pub mod Touched
-pub mod Cells
-pub mod Joining
 pub mod Carry
 pub mod Maps
 pub mod Blocks

@@ -1,10 +1,12 @@
--- The loop over the blocks and the centre as laws over plain values; an equation says what is still to do. Assumes nothing.
-use Prim.Native.Nat.{ℕ, zero, suc, _+_, _-_, _≤_, _<_}
+-- The loop over the cells as laws over plain values; an equation says what is still to do. Assumes nothing.
+use Prim.Native.Nat.{ℕ, zero, suc, _+_, _-_, _/_, _≤_, _<_}
 use mathlib.Core.Path.{_≡_, refl, sym, ap, _∙_}
+use mathlib.Core.Logic.{_≢_}
 use mathlib.Core.Bool.{true, false}
-use mathlib.Core.List.{List, _∷_, map, map-append}
+use mathlib.Core.List.{List, [], _∷_, _++_, map, map-append}
 use native.Mathlib.Omega.{arith}
 use native.Mathlib.Numerals.{add-one}
+use native.Mathlib.Decide.{ℕ-discrete, decLe}
 use lib.ListN.{replicate, take}
 use Rattle.wiring.specs.Frame.{relay}
 use Rattle.wiring.specs.Map.{closeAll}
@@ -13,50 +15,92 @@ use Rattle.frame.specs.declared.Counts.{Counts}
 use Rattle.loads.specs.Table.{row}
 use Rattle.loads.specs.Load.{atMost, less, fits, pick, load}
 use Rattle.loads.specs.Seat.{netList, seats, seating}
-use Rattle.loads.proofs.Counts.{Within, Part, part-test}
+use Rattle.loads.proofs.Counts.{Within, part-test}
 use Rattle.loads.proofs.Choice.{Served, served, later-none}
+use Rattle.router.specs.Route.{relaysFor}
+use Rattle.cells.specs.Cells.{capacity, run, cells, without}
+use Rattle.cells.specs.Serve.{spread, centre, serve}
+use Rattle.cells.proofs.Serve.{size-centre, size-block, serve-centre, serve-block, holds-all}
+use Rattle.cells.proofs.Listed.{without-same, without-other, without-absent, without-holds, no-zero}
 use Rattle.router.specs.declared.Seated.{Seated}
-use Rattle.router.specs.Route.{spread, centre, route, relaysFor}
 use Rattle.router.specs.Seated.{SeatedRow}
 
+-- the cells from p on, but for one
+unfoldable pub from : ℕ → ℕ → ℕ → List ℕ
+from W skip p = without skip (run p (suc ((W + 1) / 2) - p))
+
+pub from-start : (W skip : ℕ) → from W skip 1 ≡ without skip (cells W)
+unfolding from cells
+from-start W skip = let z : suc ((W + 1) / 2) - 1 ≡ (W + 1) / 2 = omega arith in rw z
+
+from-end : (W skip p : ℕ) → (W + 1) / 2 < p → from W skip p ≡ []
+unfolding from run without
+from-end W skip p h = let z : suc ((W + 1) / 2) - p ≡ 0 = omega arith in rw z
+
+from-run : (W p : ℕ) → p ≤ (W + 1) / 2 → run p (suc ((W + 1) / 2) - p) ≡ p ∷ run (p + 1) (suc ((W + 1) / 2) - (p + 1))
+unfolding run
+from-run W p h = let z : suc ((W + 1) / 2) - p ≡ suc (suc ((W + 1) / 2) - (p + 1)) = omega arith in rw (z, add-one p)
+
+from-skip : (W skip p : ℕ) → p ≤ (W + 1) / 2 → p ≡ skip → from W skip p ≡ from W skip (p + 1)
+unfolding from
+from-skip W skip p h e = rw (from-run W p h) (without-same skip p _ e)
+
+from-next : (W skip p : ℕ) → p ≤ (W + 1) / 2 → p ≢ skip → from W skip p ≡ p ∷ from W skip (p + 1)
+unfolding from
+from-next W skip p h e = rw (from-run W p h) (without-other skip p _ e)
+
+-- where something is left, there is a cell; where two are left and it is not the one left out, it is a block
+pub there : (W skip p : ℕ) → 1 ≤ capacity W (from W skip p) → p ≤ (W + 1) / 2
+unfolding capacity
+there W skip p h = go (decLe p ((W + 1) / 2))
+  where
+    go : Dec (p ≤ (W + 1) / 2) → p ≤ (W + 1) / 2
+    go (yes z) = z
+    go (no z) = absurd (omega (arith, ap (capacity W) (from-end W skip p (omega arith))))
+
+no-centre : (W skip p : ℕ) → 2 ≤ capacity W (from W skip p) → p ≢ skip → p + p ≢ W + 1
+unfolding capacity
+no-centre W skip p h e odd =
+    let l = there W skip p (omega arith) in
+    let z = ap (capacity W) (from-next W skip p l e ∙ ap (λ (ps : List ℕ). p ∷ ps) (from-end W skip (p + 1) (omega arith))) in
+    omega (arith, size-centre W p odd)
+
 -- one block, and what is then still to do
-pub route-step : (W k p : ℕ) (n : Counts) (room : List ℕ)
-    → closeAll room (route W (suc (suc k)) p n) ≡ closeAll (closeAll room (map (spread W p) (seating (load n k)))) (route W k (suc p) (less n (load n k)))
-unfolding route
-route-step W k p n room = closeAll-append room (map (spread W p) (seating (load n k))) (route W k (suc p) (less n (load n k)))
+pub record Block (W skip p : ℕ) : Type 0 where
+  pub below : p + p ≤ W
+  pub left : capacity W (from W skip p) ≡ capacity W (from W skip (p + 1)) + 2
+  pub serves : (n : Counts) → let k = capacity W (from W skip (p + 1)) in serve W (from W skip p) n ≡ map (spread W p) (seating (load n k)) ++ serve W (from W skip (p + 1)) (less n (load n k))
+
+pub block : (W skip p : ℕ) → 2 ≤ capacity W (from W skip p) → p ≢ skip → Block W skip p
+unfolding capacity
+block W skip p h e =
+    let l = there W skip p (omega arith) in
+    let b = no-centre W skip p h e in
+    let z = from-next W skip p l e in
+    record {
+      below = omega arith;
+      left = ap (capacity W) z ∙ omega (arith, size-block W p b);
+      serves = λ n. ap (λ (ps : List ℕ). serve W ps n) z ∙ serve-block W p (capacity W (from W skip (p + 1))) (from W skip (p + 1)) n b refl;
+    }
 
 -- the loop's end: the centre is left, or nothing
-pub route-one : (W r p : ℕ) (n : Counts) (room room' target : List ℕ) → r ≡ 1 → room' ≡ closeAll room (centre W p n) → closeAll room (route W r p n) ≡ target → room' ≡ target
-unfolding route
-route-one W r p n room room' target h e g = e ∙ (rw h at g)
+last-run : (W skip m p : ℕ) (n : Counts) → p + m ≡ suc ((W + 1) / 2) → 1 ≤ p
+    → ((capacity W (without skip (run p m)) ≡ 0) → serve W (without skip (run p m)) n ≡ []) × ((capacity W (without skip (run p m)) ≡ 1) → serve W (without skip (run p m)) n ≡ centre W (W / 2 + 1) n)
+unfolding run without capacity serve
+last-run W skip zero p n e l = (λ h. refl, λ h. absurd (omega arith))
+last-run W skip (suc m) p n e l = go (ℕ-discrete p skip) (ℕ-discrete (p + p) (W + 1)) (last-run W skip m (suc p) n (omega arith) (omega arith))
+  where
+    Last : List ℕ → Type 0
+    Last ps = ((capacity W ps ≡ 0) → serve W ps n ≡ []) × ((capacity W ps ≡ 1) → serve W ps n ≡ centre W (W / 2 + 1) n)
 
-pub route-zero : (W r p : ℕ) (n : Counts) (room target : List ℕ) → r ≡ 0 → closeAll room (route W r p n) ≡ target → room ≡ target
-unfolding route closeAll
-route-zero W r p n room target h g = rw h at g
-
--- a turn of the loop, as the code names its parts: the row q, its load l, what is left n'
-module _ (r q : ℕ) (n : Counts) (two : 2 ≤ r) (chosen : q ≡ pick n (r - 2)) where
-  module _ (within : Within r n) where
-    turn-served : Served (r - 2) n
-    turn-served = served (r - 2) n (omega arith)
-
-    pub turn-row : q < 56
-    turn-row = rw chosen (turn-served .below)
-
-    pub turn-part : (l : Counts) → l ≡ row q → Part l n
-    unfolding load
-    turn-part l e = rw (e, chosen) (turn-served .part)
-
-    pub turn-left : (l n' : Counts) → l ≡ row q → n' ≡ less n l → Within (r - 2) n'
-    unfolding load
-    turn-left l n' e f = rw (f, e, chosen) (turn-served .leaves)
-
-  pub turn-route : (W p : ℕ) (l n' : Counts) (room room' target : List ℕ) → l ≡ row q → n' ≡ less n l → room' ≡ closeAll room (map (spread W p) (seating (row q)))
-      → closeAll room (route W r p n) ≡ target → closeAll room' (route W (r - 2) (p + 1) n') ≡ target
-  unfolding load
-  turn-route W p l n' room room' target e f g h =
-      let z : r ≡ suc (suc (r - 2)) = omega arith in
-      rw (f, e, g, chosen, add-one) (sym (route-step W (r - 2) p n room) ∙ (rw z at h))
+    go : Dec (p ≡ skip) → Dec (p + p ≡ W + 1) → Last (without skip (run (suc p) m)) → Last (without skip (p ∷ run (suc p) m))
+    go (yes z) c r = rw (without-same skip p (run (suc p) m) z) r
+    go (no z) (yes c) r =
+        let one = size-centre W p c in
+        let m0 : m ≡ 0 = omega arith in
+        let mid : W / 2 + 1 ≡ p = omega arith in
+        rw (without-other skip p (run (suc p) m) z, m0) (λ h. absurd (omega arith), λ h. rw mid (serve-centre W p n c))
+    go (no z) (no c) r = let two = size-block W p c in rw (without-other skip p (run (suc p) m) z) (λ h. absurd (omega arith), λ h. absurd (omega arith))
 
 map-replicate : (f : ℕ → ℕ) (m c : ℕ) → map f (replicate m c) ≡ replicate m (f c)
 map-replicate f zero c = refl
@@ -70,46 +114,118 @@ pub centre-chain : (W p : ℕ) (n : Counts) (r0 r1 r2 r3 r4 r5 r6 : List ℕ)
 unfolding centre netList
 centre-chain W p n r0 r1 r2 r3 r4 r5 r6 a b c d e f = simp (map-append, map-replicate, closeAll-append) (cc)
 
--- what is known whenever the loop over the blocks is tested: r positions a side are left from position p on, no row before q fits
--- them, x has the nets of row q, and the target is what the room becomes when the rest is closed
-pub record Turn (W r p q : ℕ) (n : Counts) (x : Seated) (room target : List ℕ) : Type 0 where
-  pub left : W + 2 ≡ r + p + p
+pub end-none : (W skip p : ℕ) (n : Counts) (room target : List ℕ) → 1 ≤ p → p ≤ suc ((W + 1) / 2) → capacity W (from W skip p) ≡ 0 → closeAll room (serve W (from W skip p) n) ≡ target → room ≡ target
+unfolding from closeAll
+end-none W skip p n room target l b h g = rw (last-run W skip (suc ((W + 1) / 2) - p) p n (omega arith) l .0 h) at g
+
+pub end-centre : (W skip p : ℕ) (n : Counts) (room room' target : List ℕ) → 1 ≤ p → p ≤ suc ((W + 1) / 2) → capacity W (from W skip p) ≡ 1
+    → room' ≡ closeAll room (centre W (W / 2 + 1) n) → closeAll room (serve W (from W skip p) n) ≡ target → room' ≡ target
+unfolding from
+end-centre W skip p n room room' target l b h e g = e ∙ (rw (last-run W skip (suc ((W + 1) / 2) - p) p n (omega arith) l .1 h) at g)
+
+-- what is known whenever the loop over the cells is tested: the cells from p on, but for one, hold r; no row before q fits them, x has
+-- the nets of row q, and the target is what the room becomes when the rest is closed
+pub record Turn (W skip r p q : ℕ) (n : Counts) (x : Seated) (room target : List ℕ) : Type 0 where
   pub low : 1 ≤ p
+  pub upto : p ≤ suc ((W + 1) / 2)
+  pub held : r ≡ capacity W (from W skip p)
+  pub most : r ≤ W
   pub within : Within r n
   pub row : q < 56
   pub none : 2 ≤ r → (j : ℕ) → j < q → fits n (r - 2) j ≡ false
   pub seated : SeatedRow q x
-  pub todo : closeAll room (route W r p n) ≡ target
+  pub todo : closeAll room (serve W (from W skip p) n) ≡ target
 
-pub turn-start : (W : ℕ) (n : Counts) (x : Seated) (room : List ℕ) → Within W n → SeatedRow 0 x → Turn W W 1 0 n x room (closeAll room (relaysFor W n))
-unfolding relaysFor
-turn-start W n x room h s = record { left = omega arith; low = omega arith; within = h; row = omega arith; none = λ l j b. absurd (omega arith); seated = s; todo = refl }
+pub turn-start : (W skip held : ℕ) (n : Counts) (x : Seated) (room : List ℕ) → held ≡ capacity W (without skip (cells W)) → Within held n → SeatedRow 0 x
+    → Turn W skip held 1 0 n x room (closeAll room (serve W (without skip (cells W)) n))
+turn-start W skip held n x room e h s = record {
+  low = omega arith;
+  upto = omega arith;
+  held = e ∙ ap (capacity W) (sym (from-start W skip));
+  most = omega (arith, without-holds W skip (cells W), holds-all W);
+  within = h;
+  row = omega arith;
+  none = λ l j b. absurd (omega arith);
+  seated = s;
+  todo = ap (λ (ps : List ℕ). closeAll room (serve W ps n)) (from-start W skip);
+}
 
-module _ (W r p q : ℕ) (n : Counts) (x : Seated) (room target : List ℕ) (t : Turn W r p q n x room target) (two : 2 ≤ r) (next : ℕ) (chosen : next ≡ pick n (r - 2)) where
-  pub turn-below : next < 56
-  turn-below = turn-row r next n two chosen (t .within)
+module _ (W skip r p q : ℕ) (n : Counts) (x : Seated) (room target : List ℕ) (t : Turn W skip r p q n x room target) (two : 2 ≤ r) where
+  pub turn-there : p ≤ (W + 1) / 2
+  turn-there = there W skip p (omega (arith, t .held))
 
-  pub turn-most : (l : Counts) → l ≡ row next → atMost l n ≡ true
-  turn-most l e = part-test l n (turn-part r next n two chosen (t .within) l e)
+  -- the cell that is left out
+  pub turn-skip : p ≡ skip → Turn W skip r (p + 1) q n x room target
+  turn-skip e =
+      let l = turn-there in
+      let z = from-skip W skip p l e in
+      record {
+        low = omega arith;
+        upto = omega arith;
+        held = t .held ∙ ap (capacity W) z;
+        most = t .most;
+        within = t .within;
+        row = t .row;
+        none = t .none;
+        seated = t .seated;
+        todo = ap (λ (ps : List ℕ). closeAll room (serve W ps n)) (sym z) ∙ t .todo;
+      }
 
-  pub turn-next : (x' : Seated) (l n' : Counts) (room' : List ℕ) → SeatedRow next x' → l ≡ row next → n' ≡ less n l
-      → room' ≡ closeAll room (map (spread W p) (seats (take (x' .nets) (x' .types)) (x' .seating))) → Turn W (r - 2) (p + 1) next n' x' room' target
-  unfolding seating
-  turn-next x' l n' room' s e f g = record {
-    left = omega (arith, t .left);
-    low = omega arith;
-    within = turn-left r next n two chosen (t .within) l n' e f;
-    row = turn-below;
-    none = λ h j b. rw (f, e) (none-later h j b);
-    seated = s;
-    todo = turn-route r next n two chosen W p l n' room room' target e f (rw (s .are, s .seated) at g) (t .todo);
-  }
-    where
-      none-later : 2 ≤ r - 2 → (j : ℕ) → j < next → fits (less n (row next)) (r - 2 - 2) j ≡ false
-      none-later h j b =
-          let z : r - 2 ≡ r - 2 - 2 + 2 = omega arith in
-          later-none n (r - 2 - 2) next (omega (arith, t .within)) (chosen ∙ ap (pick n) z) j b
+  module _ (other : p ≢ skip) where
+    turn-block : Block W skip p
+    turn-block = block W skip p (omega (arith, t .held)) other
+
+    pub turn-place : p + p ≤ W
+    turn-place = turn-block .below
+
+    left : r - 2 ≡ capacity W (from W skip (p + 1))
+    left = omega (arith, t .held, turn-block .left)
+
+    module _ (next : ℕ) (chosen : next ≡ pick n (r - 2)) where
+      turn-served : Served (r - 2) n
+      turn-served = served (r - 2) n (omega (arith, t .within))
+
+      pub turn-below : next < 56
+      turn-below = rw chosen (turn-served .below)
+
+      pub turn-most : (l : Counts) → l ≡ row next → atMost l n ≡ true
+      unfolding load
+      turn-most l e = part-test l n (rw (e, chosen) (turn-served .part))
+
+      pub turn-next : (x' : Seated) (l n' : Counts) (room' : List ℕ) → SeatedRow next x' → l ≡ row next → n' ≡ less n l
+          → room' ≡ closeAll room (map (spread W p) (seats (take (x' .nets) (x' .types)) (x' .seating))) → Turn W skip (r - 2) (p + 1) next n' x' room' target
+      unfolding seating load
+      turn-next x' l n' room' s e f g = record {
+        low = omega arith;
+        upto = omega (arith, turn-place);
+        held = left;
+        most = omega (arith, t .most);
+        within = rw (f, e, chosen) (turn-served .leaves);
+        row = turn-below;
+        none = λ h j b. rw (f, e) (none-later h j b);
+        seated = s;
+        todo = rw (f, e) (todo (rw (s .are, s .seated) at g));
+      }
+        where
+          none-later : 2 ≤ r - 2 → (j : ℕ) → j < next → fits (less n (row next)) (r - 2 - 2) j ≡ false
+          none-later h j b =
+              let z : r - 2 ≡ r - 2 - 2 + 2 = omega arith in
+              later-none n (r - 2 - 2) next (omega (arith, t .within)) (chosen ∙ ap (pick n) z) j b
+
+          todo : room' ≡ closeAll room (map (spread W p) (seating (row next))) → closeAll room' (serve W (from W skip (p + 1)) (less n (row next))) ≡ target
+          todo h =
+              let is : row next ≡ load n (capacity W (from W skip (p + 1))) = ap row (chosen ∙ ap (pick n) left) in
+              rw (h, is) (sym (closeAll-append room (map (spread W p) (seating (load n (capacity W (from W skip (p + 1)))))) (serve W (from W skip (p + 1)) (less n (load n (capacity W (from W skip (p + 1)))))))
+              ∙ ap (closeAll room) (sym (turn-block .serves n)) ∙ t .todo)
 
 -- with one position left the counts fit the centre
-pub one-left : (W r p q : ℕ) (n : Counts) (x : Seated) (room target : List ℕ) → Turn W r p q n x room target → r ≡ 1 → Within 1 n
-one-left W r p q n x room target t e = omega (arith, t .within)
+pub one-left : (W skip r p q : ℕ) (n : Counts) (x : Seated) (room target : List ℕ) → Turn W skip r p q n x room target → r ≡ 1 → (Within 1 n) × (W / 2 + 1 ≤ W)
+one-left W skip r p q n x room target t e = (omega (arith, t .within), omega (arith, there W skip p (omega (arith, t .held)), t .low))
+
+-- no cell has low position 0: with none left out the relays are those of the whole rule
+pub all-hold : (W : ℕ) → W ≡ capacity W (without 0 (cells W))
+all-hold W = sym (holds-all W) ∙ ap (capacity W) (sym (without-absent 0 (cells W) (no-zero W)))
+
+pub all-relays : (W : ℕ) (n : Counts) → serve W (without 0 (cells W)) n ≡ relaysFor W n
+unfolding relaysFor
+all-relays W n = ap (λ (ps : List ℕ). serve W ps n) (without-absent 0 (cells W) (no-zero W))

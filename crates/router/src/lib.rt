@@ -12,7 +12,9 @@ ghost use Rattle.frame.specs.Tests.{overfull};
 ghost use Rattle.loads.specs.Table.{table};
 ghost use Rattle.loads.specs.Load.{within};
 ghost use Rattle.loads.specs.Seat.{seats};
-ghost use Rattle.router.specs.Route.{lowHigh, spread, centre, relaysFor};
+ghost use Rattle.cells.specs.Cells.{capacity, cells, without};
+ghost use Rattle.cells.specs.Serve.{lowHigh, spread, centre, serve};
+ghost use Rattle.router.specs.Route.{relaysFor};
 ghost use Rattle.router.specs.Router.{routeAnswer, routeRoom};
 ghost use Rattle.router.specs.Seated.{SeatedRow, Nets};
 use answers::Answer;
@@ -103,18 +105,22 @@ fn close_centre(room: &mut [u8], w: usize, p: usize, n: Counts)
     close_one(room, w, p, n, 6);
 }
 
-// Closes the relays of all blocks, from the outside in, and of the centre.
-fn close_all(room: &mut [u8], w: usize, counts: Counts)
-    requires { ⌜ (within w counts ≡ true) × (w ≤ 64) ⌝ }
-    ensures { λ _. ⌜ now (room .exit) ≡ closeAll (now (room .entry)) (relaysFor w counts) ⌝ }
+// Closes the relays of all cells but `skip`, from the outside in; together they hold this many nets a side.
+pub fn close_cells(room: &mut [u8], w: usize, skip: usize, held: usize, counts: Counts)
+    requires { ⌜ (held ≡ capacity w (without skip (cells w))) × (within held counts ≡ true) × (w ≤ 64) ⌝ }
+    ensures { λ _. ⌜ now (room .exit) ≡ closeAll (now (room .entry)) (serve w (without skip (cells w)) counts) ⌝ }
 {
     let rows = loads::load_table();
     let mut n = counts;
-    let mut r = w;
+    let mut r = held;
     let mut p = 1;
     let mut q = 0;
     let mut seated = seat_row(&rows, 0);
     while 2 <= r {
+        if p == skip {
+            p += 1;
+            continue;
+        }
         r -= 2;
         let next = loads::next_row(&rows, n, r as u16, q);
         seated = seat_next(&rows, q, next, seated);
@@ -124,8 +130,16 @@ fn close_all(room: &mut [u8], w: usize, counts: Counts)
         p += 1;
     }
     if r == 1 {
-        close_centre(room, w, p, n);
+        close_centre(room, w, w / 2 + 1, n);
     }
+}
+
+// Closes the relays of all cells: no cell has low position 0.
+fn close_all(room: &mut [u8], w: usize, counts: Counts)
+    requires { ⌜ (within w counts ≡ true) × (w ≤ 64) ⌝ }
+    ensures { λ _. ⌜ now (room .exit) ≡ closeAll (now (room .entry)) (relaysFor w counts) ⌝ }
+{
+    close_cells(room, w, 0, w, counts);
 }
 
 // The refusal of an overfull side; done where there is none.

@@ -14,22 +14,10 @@ use Rattle.frame_c.proofs.frame_add_net.Tie as tie
 said : (c : tie.After-added-answer) → let start = c .before .before .before .before .before .before .before in c .added-answer .result ≡ callAnswer (start .args .size) (start .args .map .now) (add (start .args .kind))
 said c = c .added-answer .ensures ∙ ap addedAnswer (c .before .before .before .before .add-net .ensures .0) ∙ added-answer _ _ _
 
-add-net-requires : tie.Need-add-net-requires
-add-net-requires c κs = search needs
-
-relay-told-requires : tie.Need-relay-told-requires
-relay-told-requires c κs = search needs
-
-added-answer-requires : tie.Need-added-answer-requires
-added-answer-requires c κs = search needs
-
 tell-requires : tie.Need-tell-requires
 tell-requires c κs =
     let start = c .before .before .before .before .before .before .before .before in
     rw (said (c .before)) (add-fits _ _ _ (start .fits .size .fits) (start .fits .kind .fits))
-
-same-length : tie.Need-same-length
-same-length c = search needs
 
 returns : tie.Need-returns
 returns c =
@@ -37,4 +25,4 @@ returns c =
     (c .tell .ensures .0 ∙ ap codeOf (said (c .before .before)), (c .tell .ensures .1 ∙ ap numberOf (said (c .before .before)), (c .before .before .before .relay-told .ensures ∙ ap relayTold (e .0), e .1)))
 
 pub frame-add-net-spec : {M : Type 1} → statement M
-frame-add-net-spec = tie.close (tie.spec add-net-requires relay-told-requires added-answer-requires tell-requires same-length returns)
+frame-add-net-spec = tie.close (tie.spec (λ c κs. search needs) (λ c κs. search needs) (λ c κs. search needs) tell-requires (λ c. search needs) returns)

@@ -7,9 +7,6 @@ use Rattle.frame_c.proofs.Numbers.{word-fits}
 use Rattle.frame_c.proofs.frame_check_map.Statement.{statement}
 use Rattle.frame_c.proofs.frame_check_map.Tie as tie
 
-check-map-requires : tie.Need-check-map-requires
-check-map-requires c κs = search needs
-
 tell-requires : tie.Need-tell-requires
 tell-requires c κs = word-fits _ _ (c .before .check-map .ensures) (check-mild _ _ _ (c .before .before .before .fits .size .fits) .small)
 
@@ -19,4 +16,4 @@ returns c =
     (c .tell .ensures .0 ∙ ap codeOf e, c .tell .ensures .1 ∙ ap numberOf e)
 
 pub frame-check-map-spec : {M : Type 1} → statement M
-frame-check-map-spec = tie.close (tie.spec check-map-requires tell-requires returns)
+frame-check-map-spec = tie.close (tie.spec (λ c κs. search needs) tell-requires returns)

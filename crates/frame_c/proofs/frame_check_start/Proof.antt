@@ -6,9 +6,6 @@ use Rattle.frame_c.proofs.Numbers.{start-fits}
 use Rattle.frame_c.proofs.frame_check_start.Statement.{statement}
 use Rattle.frame_c.proofs.frame_check_start.Tie as tie
 
-test-start-requires : tie.Need-test-start-requires
-test-start-requires c κs = search needs
-
 tell-requires : tie.Need-tell-requires
 tell-requires c κs = rw (c .before .test-start .ensures) (start-fits _ _ (c .before .before .before .fits .size .fits))
 
@@ -18,4 +15,4 @@ returns c =
     (c .tell .ensures .0 ∙ ap codeOf e, c .tell .ensures .1 ∙ ap numberOf e)
 
 pub frame-check-start-spec : {M : Type 1} → statement M
-frame-check-start-spec = tie.close (tie.spec test-start-requires tell-requires returns)
+frame-check-start-spec = tie.close (tie.spec (λ c κs. search needs) tell-requires returns)

@@ -6,16 +6,10 @@ use Rattle.frame_c.proofs.Numbers.{drop-fits}
 use Rattle.frame_c.proofs.frame_drop_net.Statement.{statement}
 use Rattle.frame_c.proofs.frame_drop_net.Tie as tie
 
-drop-net-requires : tie.Need-drop-net-requires
-drop-net-requires c κs = search needs
-
 tell-requires : tie.Need-tell-requires
 tell-requires c κs =
     let start = c .before .before .before .before .before .before in
     rw (c .before .before .before .drop-net .ensures .0) (drop-fits _ _ _ (start .fits .size .fits) (start .fits .relay .fits))
-
-same-length : tie.Need-same-length
-same-length c = search needs
 
 returns : tie.Need-returns
 returns c =
@@ -23,4 +17,4 @@ returns c =
     (c .tell .ensures .0 ∙ ap codeOf (e .0), (c .tell .ensures .1 ∙ ap numberOf (e .0), e .1))
 
 pub frame-drop-net-spec : {M : Type 1} → statement M
-frame-drop-net-spec = tie.close (tie.spec drop-net-requires tell-requires same-length returns)
+frame-drop-net-spec = tie.close (tie.spec (λ c κs. search needs) tell-requires (λ c. search needs) returns)

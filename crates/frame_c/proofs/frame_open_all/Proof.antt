@@ -6,14 +6,8 @@ use Rattle.frame_c.proofs.Numbers.{open-fits}
 use Rattle.frame_c.proofs.frame_open_all.Statement.{statement}
 use Rattle.frame_c.proofs.frame_open_all.Tie as tie
 
-open-frame-requires : tie.Need-open-frame-requires
-open-frame-requires c κs = search needs
-
 tell-requires : tie.Need-tell-requires
 tell-requires c κs = rw (c .before .before .before .open-frame .ensures .0) (open-fits _ _ (c .before .before .before .before .before .before .fits .size .fits))
-
-same-length : tie.Need-same-length
-same-length c = search needs
 
 returns : tie.Need-returns
 returns c =
@@ -21,4 +15,4 @@ returns c =
     (c .tell .ensures .0 ∙ ap codeOf (e .0), (c .tell .ensures .1 ∙ ap numberOf (e .0), e .1))
 
 pub frame-open-all-spec : {M : Type 1} → statement M
-frame-open-all-spec = tie.close (tie.spec open-frame-requires tell-requires same-length returns)
+frame-open-all-spec = tie.close (tie.spec (λ c κs. search needs) tell-requires (λ c. search needs) returns)

@@ -9,9 +9,6 @@ use Rattle.frame_c.proofs.Numbers.{word-fits}
 use Rattle.frame_c.proofs.frame_read_job.Statement.{statement}
 use Rattle.frame_c.proofs.frame_read_job.Tie as tie
 
-read-job-requires : tie.Need-read-job-requires
-read-job-requires c κs = search needs
-
 tell-requires : tie.Need-tell-requires
 tell-requires c κs = word-fits _ _ (ap (λ (r : JobRead). r .answer) (c .before .before .before .before .read-job .ensures)) (job-number (c .before .before .before .before .before .before .args .bytes .now) (λ i. c .before .before .before .before .before .shared-slice-known .given i .fits))
 
@@ -21,4 +18,4 @@ returns c =
     (c .tell .ensures .0 ∙ ap (λ (r : JobRead). codeOf (r .answer)) e, (c .tell .ensures .1 ∙ ap (λ (r : JobRead). numberOf (r .answer)) e, (ap (λ (r : JobRead). r .job .size) e, ap (λ (r : JobRead). countList (r .job .counts)) e)))
 
 pub frame-read-job-spec : {M : Type 1} → statement M
-frame-read-job-spec = tie.close (tie.spec read-job-requires tell-requires returns)
+frame-read-job-spec = tie.close (tie.spec (λ c κs. search needs) tell-requires returns)

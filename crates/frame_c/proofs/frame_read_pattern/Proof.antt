@@ -9,9 +9,6 @@ use Rattle.frame_c.proofs.Numbers.{word-fits}
 use Rattle.frame_c.proofs.frame_read_pattern.Statement.{statement}
 use Rattle.frame_c.proofs.frame_read_pattern.Tie as tie
 
-read-pattern-requires : tie.Need-read-pattern-requires
-read-pattern-requires c κs = search needs
-
 tell-requires : tie.Need-tell-requires
 tell-requires c κs = word-fits _ _ (ap (λ (r : PatternRead). r .answer) (c .before .before .before .before .read-pattern .ensures)) (pattern-number (c .before .before .before .before .before .before .args .bytes .now) (λ i. c .before .before .before .before .before .shared-slice-known .given i .fits))
 
@@ -21,4 +18,4 @@ returns c =
     (c .tell .ensures .0 ∙ ap (λ (r : PatternRead). codeOf (r .answer)) e, (c .tell .ensures .1 ∙ ap (λ (r : PatternRead). numberOf (r .answer)) e, (ap (λ (r : PatternRead). r .job .size) e, (ap (λ (r : PatternRead). countList (r .job .counts)) e, (ap (λ (r : PatternRead). r .start) e, ap (λ (r : PatternRead). r .len) e)))))
 
 pub frame-read-pattern-spec : {M : Type 1} → statement M
-frame-read-pattern-spec = tie.close (tie.spec read-pattern-requires tell-requires returns)
+frame-read-pattern-spec = tie.close (tie.spec (λ c κs. search needs) tell-requires returns)

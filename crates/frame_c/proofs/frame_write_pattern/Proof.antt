@@ -7,14 +7,8 @@ use Rattle.frame_c.proofs.Numbers.{word-fits}
 use Rattle.frame_c.proofs.frame_write_pattern.Statement.{statement}
 use Rattle.frame_c.proofs.frame_write_pattern.Tie as tie
 
-write-pattern-requires : tie.Need-write-pattern-requires
-write-pattern-requires c κs = search needs
-
 tell-requires : tie.Need-tell-requires
 tell-requires c κs = word-fits _ _ (c .before .before .before .write-pattern .ensures .0) (written-pattern-number _ _ _ (c .before .before .before .before .before .before .before .fits .size .fits))
-
-same-length : tie.Need-same-length
-same-length c = search needs
 
 returns : tie.Need-returns
 returns c =
@@ -22,4 +16,4 @@ returns c =
     (c .tell .ensures .0 ∙ ap codeOf (e .0), (c .tell .ensures .1 ∙ ap numberOf (e .0), e .1))
 
 pub frame-write-pattern-spec : {M : Type 1} → statement M
-frame-write-pattern-spec = tie.close (tie.spec write-pattern-requires tell-requires same-length returns)
+frame-write-pattern-spec = tie.close (tie.spec (λ c κs. search needs) tell-requires (λ c. search needs) returns)

@@ -5,48 +5,6 @@ use Rattle.jobs.proofs.Ways.{counts-put}
 use Rattle.jobs.proofs.put_counts.Statement.{statement}
 use Rattle.jobs.proofs.put_counts.Tie as tie
 
-put-tag-requires : tie.Need-put-tag-requires
-put-tag-requires c κs = search needs
-
-add-put-word : tie.Need-add-put-word
-add-put-word c = search needs
-
-put-word-requires : tie.Need-put-word-requires
-put-word-requires c κs = search needs
-
-add-put-word-2 : tie.Need-add-put-word-2
-add-put-word-2 c = search needs
-
-put-word-requires-2 : tie.Need-put-word-requires-2
-put-word-requires-2 c κs = search needs
-
-add-put-word-3 : tie.Need-add-put-word-3
-add-put-word-3 c = search needs
-
-put-word-requires-3 : tie.Need-put-word-requires-3
-put-word-requires-3 c κs = search needs
-
-add-put-word-4 : tie.Need-add-put-word-4
-add-put-word-4 c = search needs
-
-put-word-requires-4 : tie.Need-put-word-requires-4
-put-word-requires-4 c κs = search needs
-
-add-put-word-5 : tie.Need-add-put-word-5
-add-put-word-5 c = search needs
-
-put-word-requires-5 : tie.Need-put-word-requires-5
-put-word-requires-5 c κs = search needs
-
-add-put-word-6 : tie.Need-add-put-word-6
-add-put-word-6 c = search needs
-
-put-word-requires-6 : tie.Need-put-word-requires-6
-put-word-requires-6 c κs = search needs
-
-same-length : tie.Need-same-length
-same-length c = search needs
-
 returns : tie.Need-returns
 returns c =
     let w6 = c .before .before in
@@ -64,18 +22,18 @@ pub put-counts-spec : {M : Type 1} → statement M
 put-counts-spec =
     tie.close
     (tie.spec
-    put-tag-requires
-    add-put-word
-    put-word-requires
-    add-put-word-2
-    put-word-requires-2
-    add-put-word-3
-    put-word-requires-3
-    add-put-word-4
-    put-word-requires-4
-    add-put-word-5
-    put-word-requires-5
-    add-put-word-6
-    put-word-requires-6
-    same-length
+    (λ c κs. search needs)
+    (λ c. search needs)
+    (λ c κs. search needs)
+    (λ c. search needs)
+    (λ c κs. search needs)
+    (λ c. search needs)
+    (λ c κs. search needs)
+    (λ c. search needs)
+    (λ c κs. search needs)
+    (λ c. search needs)
+    (λ c κs. search needs)
+    (λ c. search needs)
+    (λ c κs. search needs)
+    (λ c. search needs)
     returns)

@@ -6,18 +6,6 @@ use Rattle.jobs.specs.Format.{sizeField, countsField}
 use Rattle.jobs.proofs.put_head.Statement.{statement}
 use Rattle.jobs.proofs.put_head.Tie as tie
 
-cast-put-size : tie.Need-cast-put-size
-cast-put-size c = search needs
-
-put-size-requires : tie.Need-put-size-requires
-put-size-requires c κs = search needs
-
-put-counts-requires : tie.Need-put-counts-requires
-put-counts-requires c κs = search needs
-
-same-length : tie.Need-same-length
-same-length c = search needs
-
 returns : tie.Need-returns
 returns c =
     let size = c .before .before .before .before .before .before .before in
@@ -26,4 +14,4 @@ returns c =
 
 pub put-head-spec : {M : Type 1} → statement M
 put-head-spec =
-    tie.close (tie.spec cast-put-size put-size-requires put-counts-requires same-length returns)
+    tie.close (tie.spec (λ c. search needs) (λ c κs. search needs) (λ c κs. search needs) (λ c. search needs) returns)

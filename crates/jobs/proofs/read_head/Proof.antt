@@ -51,32 +51,8 @@ found₂ c = found _ _ _ _ _ (there₂ c)
 faulty₂ : (c : tie.After-enum-told3) → fieldAt (bytes₂ (c .before .before)) (next (tested (c .before .before))) 2 12 ≡ Faulty (c .enum-told3 .given .0 .0)
 faulty₂ c = sym (c .before .before .field-at2 .ensures) ∙ c .enum-told3 .given .1
 
-field-at-requires : tie.Need-field-at-requires
-field-at-requires c κs = search needs
-
-enum-known-first : tie.Need-enum-known-first
-enum-known-first c = search needs
-
-enum-told : tie.Need-enum-told
-enum-told c = search needs
-
-field-answer-requires : tie.Need-field-answer-requires
-field-answer-requires c κs = search needs
-
 returns : tie.Need-returns
 returns c = ap Refused (c .field-answer .ensures ∙ ap fieldAnswer (c .before .enum-told .given .1)) ∙ no-size _ (faulty₁ (c .before))
-
-byte-at-requires : tie.Need-byte-at-requires
-byte-at-requires c κs = search needs
-
-cast-size : tie.Need-cast-size
-cast-size c = search needs
-
-test-size-requires : tie.Need-test-size-requires
-test-size-requires c κs = search needs
-
-enum-told-2 : tie.Need-enum-told-2
-enum-told-2 c = search needs
 
 returns-2 : tie.Need-returns-2
 returns-2 c =
@@ -85,18 +61,6 @@ returns-2 c =
 
 add-field-at : tie.Need-add-field-at
 add-field-at c = omega (arith, found₁ (first (c .before .before)))
-
-field-at-requires-2 : tie.Need-field-at-requires-2
-field-at-requires-2 c κs = search needs
-
-enum-known-second : tie.Need-enum-known-second
-enum-known-second c = search needs
-
-enum-told-3 : tie.Need-enum-told-3
-enum-told-3 c = search needs
-
-field-answer-requires-2 : tie.Need-field-answer-requires-2
-field-answer-requires-2 c κs = search needs
 
 returns-3 : tie.Need-returns-3
 returns-3 c =
@@ -120,21 +84,21 @@ pub read-head-spec : {M : Type 1} → statement M
 read-head-spec =
     tie.close
     (tie.spec
-    field-at-requires
-    enum-known-first
-    enum-told
-    field-answer-requires
+    (λ c κs. search needs)
+    (λ c. search needs)
+    (λ c. search needs)
+    (λ c κs. search needs)
     returns
-    byte-at-requires
-    cast-size
-    test-size-requires
-    enum-told-2
+    (λ c κs. search needs)
+    (λ c. search needs)
+    (λ c κs. search needs)
+    (λ c. search needs)
     returns-2
     add-field-at
-    field-at-requires-2
-    enum-known-second
-    enum-told-3
-    field-answer-requires-2
+    (λ c κs. search needs)
+    (λ c. search needs)
+    (λ c. search needs)
+    (λ c κs. search needs)
     returns-3
     counts-at-requires
     add-t11

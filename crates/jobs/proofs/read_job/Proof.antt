@@ -16,28 +16,10 @@ begun c = sym (c .before .before .read-head .ensures) ∙ c .head .given .1
 refused : (c : tie.After-enum-told) → readHead (now (c .before .before .before .before .args .s)) ≡ Refused (c .enum-told .given .0 .0)
 refused c = sym (c .before .before .read-head .ensures) ∙ c .enum-told .given .1
 
-read-head-requires : tie.Need-read-head-requires
-read-head-requires c κs = search needs
-
-enum-known-head : tie.Need-enum-known-head
-enum-known-head c = search needs
-
-enum-told : tie.Need-enum-told
-enum-told c = search needs
-
-head-answer-requires : tie.Need-head-answer-requires
-head-answer-requires c κs = search needs
-
-no-job-requires : tie.Need-no-job-requires
-no-job-requires c κs = search needs
-
 returns : tie.Need-returns
 returns c =
     c .no-job .ensures ∙ ap noJob (c .before .head-answer .ensures ∙ ap headAnswer (c .before .before .enum-told .given .1))
     ∙ no-head _ (refused (c .before .before))
-
-no-job-requires-2 : tie.Need-no-job-requires-2
-no-job-requires-2 c κs = search needs
 
 returns-2 : tie.Need-returns-2
 returns-2 c = c .no-job2 .ensures ∙ bytes-after _ (begun (c .before .before .before)) (omega arith)
@@ -49,12 +31,12 @@ pub read-job-spec : {M : Type 1} → statement M
 read-job-spec =
     tie.close
     (tie.spec
-    read-head-requires
-    enum-known-head
-    enum-told
-    head-answer-requires
-    no-job-requires
+    (λ c κs. search needs)
+    (λ c. search needs)
+    (λ c. search needs)
+    (λ c κs. search needs)
+    (λ c κs. search needs)
     returns
-    no-job-requires-2
+    (λ c κs. search needs)
     returns-2
     returns-3)

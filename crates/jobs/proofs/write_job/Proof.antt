@@ -13,12 +13,6 @@ use borrow.Author.Needs.{needs}
 use Rattle.jobs.proofs.write_job.Statement.{statement}
 use Rattle.jobs.proofs.write_job.Tie as tie
 
-test-size-requires : tie.Need-test-size-requires
-test-size-requires c κs = search needs
-
-enum-told : tie.Need-enum-told
-enum-told c = search needs
-
 returns : tie.Need-returns
 unfolding jobAnswer jobRoom
 returns c =
@@ -28,9 +22,6 @@ returns c =
 -- the size was served
 served : (c : tie.After-enum-told) → sizeTest (c .before .before .before .before .args .job .size) ≡ Done
 served c = sym (c .before .before .test-size .ensures) ∙ c .enum-told .given .1
-
-head-length-requires : tie.Need-head-length-requires
-head-length-requires c κs = search needs
 
 returns-2 : tie.Need-returns-2
 unfolding jobAnswer jobRoom
@@ -44,9 +35,6 @@ put-head-requires c κs =
     let told = c .before .before .before in
     omega (arith, size-is _ (is-done _ (served told)))
 
-same-length : tie.Need-same-length
-same-length c = search needs
-
 returns-3 : tie.Need-returns-3
 unfolding jobAnswer jobRoom
 returns-3 c =
@@ -58,11 +46,11 @@ pub write-job-spec : {M : Type 1} → statement M
 write-job-spec =
     tie.close
     (tie.spec
-    test-size-requires
-    enum-told
+    (λ c κs. search needs)
+    (λ c. search needs)
     returns
-    head-length-requires
+    (λ c κs. search needs)
     returns-2
     put-head-requires
-    same-length
+    (λ c. search needs)
     returns-3)

@@ -12,11 +12,8 @@ returns c = list-short _ _ (c .if1 .taken)
 put-text-requires : tie.Need-put-text-requires
 put-text-requires c κs = omega (arith, text-length (c .before .before .before .before .args .input .now))
 
-same-length : tie.Need-same-length
-same-length c = search needs
-
 returns-2 : tie.Need-returns-2
 returns-2 c = list-done _ _ (omega arith) (c .before .before .put-text .ensures)
 
 pub list-spec : {M : Type 1} → statement M
-list-spec = tie.close (tie.spec returns put-text-requires same-length returns-2)
+list-spec = tie.close (tie.spec returns put-text-requires (λ c. search needs) returns-2)

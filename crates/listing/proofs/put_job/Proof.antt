@@ -16,26 +16,11 @@ refused c = job-refused _ _ _ (c .before .before .before .route .ensures .0) (c 
 mapped : (c : tie.After-map-length) → Mapped (c .before .before .before .before .before .before .before .args .job) (c .map-length .result) (c .before .before .before .before .route .last .1 .1 .0)
 mapped c = job-mapped _ _ _ (c .before .before .before .before .route .ensures .0) (c .before .before .code .ensures) _ _ (c .before .if1 .left) (c .map-length .ensures) (c .before .before .before .before .route .ensures .1)
 
-slice-aggregate-route : tie.Need-slice-aggregate-route
-slice-aggregate-route c = search needs
-
-route-requires : tie.Need-route-requires
-route-requires c κs = search needs
-
-code-requires : tie.Need-code-requires
-code-requires c κs = search needs
-
 put-refused-requires : tie.Need-put-refused-requires
 put-refused-requires c κs = omega (arith, ap length (refused (c .before)))
 
-same-length : tie.Need-same-length
-same-length c = search needs
-
 returns : tie.Need-returns
 returns c = wrote-as (refused (c .before .before .before .before)) (c .before .before .put-refused .ensures)
-
-map-length-requires : tie.Need-map-length-requires
-map-length-requires c κs = search needs
 
 array-share-prefix-map : tie.Need-array-share-prefix-map
 array-share-prefix-map c = mapped (c .before) .within
@@ -46,9 +31,6 @@ slice-aggregate-put-map c = mapped (c .before .before) .long
 put-map-requires : tie.Need-put-map-requires
 put-map-requires c κs = omega (arith, ap length (mapped (c .before .before) .text))
 
-same-length-2 : tie.Need-same-length-2
-same-length-2 c = search needs
-
 returns-2 : tie.Need-returns-2
 returns-2 c = wrote-as (mapped (c .before .before .before .before .before) .text) (c .before .before .put-map .ensures)
 
@@ -56,15 +38,15 @@ pub put-job-spec : {M : Type 1} → statement M
 put-job-spec =
     tie.close
     (tie.spec
-    slice-aggregate-route
-    route-requires
-    code-requires
+    (λ c. search needs)
+    (λ c κs. search needs)
+    (λ c κs. search needs)
     put-refused-requires
-    same-length
+    (λ c. search needs)
     returns
-    map-length-requires
+    (λ c κs. search needs)
     array-share-prefix-map
     slice-aggregate-put-map
     put-map-requires
-    same-length-2
+    (λ c. search needs)
     returns-2)

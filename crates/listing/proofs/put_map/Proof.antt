@@ -10,17 +10,11 @@ use Rattle.listing.proofs.put_map.Tie as tie
 counted : (c : tie.After-count-closed) → IsMapText (c .before .before .before .before .args .size) (c .count-closed .result) (c .before .before .before .before .args .map .now)
 counted c = is-map-text _ _ _ (c .count-closed .ensures)
 
-count-closed-requires : tie.Need-count-closed-requires
-count-closed-requires c κs = search needs
-
 put-size-line-requires : tie.Need-put-size-line-requires
 put-size-line-requires c κs = omega (arith, counted c)
 
 put-nets-requires : tie.Need-put-nets-requires
 put-nets-requires c κs = omega (arith, counted (c .before .before .before .before))
-
-same-length : tie.Need-same-length
-same-length c = search needs
 
 returns : tie.Need-returns
 returns c = wrote-as (counted (c .before .before .before .before .before .before .before) .text) (wrote-append (c .before .before .before .before .before .before .put-size-line .ensures) (c .before .before .put-nets .ensures))
@@ -28,4 +22,4 @@ returns c = wrote-as (counted (c .before .before .before .before .before .before
 pub put-map-spec : {M : Type 1} → statement M
 put-map-spec =
     tie.close
-    (tie.spec count-closed-requires put-size-line-requires put-nets-requires same-length returns)
+    (tie.spec (λ c κs. search needs) put-size-line-requires put-nets-requires (λ c. search needs) returns)

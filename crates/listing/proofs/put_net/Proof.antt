@@ -15,26 +15,8 @@ net c =
     (sym (c .before .before .before .before .before .before .sort-relay .ensures) ∙ c .before .before .before .before .kind .given .1)
     (sym (c .before .before .relay-terminals .ensures) ∙ c .earlier .given .1)
 
-sort-relay-requires : tie.Need-sort-relay-requires
-sort-relay-requires c κs = search needs
-
-enum-known-kind : tie.Need-enum-known-kind
-enum-known-kind c = search needs
-
-enum-told : tie.Need-enum-told
-enum-told c = search needs
-
 returns : tie.Need-returns
 returns c = absurd (some-relay _ _ (c .before .before .before .before .pre .0) (sym (c .before .before .sort-relay .ensures) ∙ c .enum-told .given .1))
-
-relay-terminals-requires : tie.Need-relay-terminals-requires
-relay-terminals-requires c κs = search needs
-
-enum-known-earlier : tie.Need-enum-known-earlier
-enum-known-earlier c = search needs
-
-enum-told-2 : tie.Need-enum-told-2
-enum-told-2 c = search needs
 
 returns-2 : tie.Need-returns-2
 returns-2 c = absurd (some-terminals _ _ (c .before .before .before .before .before .before .before .before .pre .0) (sym (c .before .before .relay-terminals .ensures) ∙ c .enum-told2 .given .1))
@@ -51,9 +33,6 @@ put-terminal-requires-2 c κs = omega (arith, net (c .before .before .before .be
 put-byte-requires : tie.Need-put-byte-requires
 put-byte-requires c κs = omega (arith, net (c .before .before .before .before .before .before .before .before .before .before .before .before .before .before))
 
-same-length : tie.Need-same-length
-same-length c = search needs
-
 returns-3 : tie.Need-returns-3
 returns-3 c =
     wrote-as (net (c .before .before .before .before .before .before .before .before .before .before .before .before .before .before .before .before .before) .line)
@@ -65,17 +44,17 @@ pub put-net-spec : {M : Type 1} → statement M
 put-net-spec =
     tie.close
     (tie.spec
-    sort-relay-requires
-    enum-known-kind
-    enum-told
+    (λ c κs. search needs)
+    (λ c. search needs)
+    (λ c. search needs)
     returns
-    relay-terminals-requires
-    enum-known-earlier
-    enum-told-2
+    (λ c κs. search needs)
+    (λ c. search needs)
+    (λ c. search needs)
     returns-2
     put-decimal-requires
     put-terminal-requires
     put-terminal-requires-2
     put-byte-requires
-    same-length
+    (λ c. search needs)
     returns-3)

@@ -10,18 +10,6 @@ use Rattle.listing.proofs.put_refused.Tie as tie
 told : (c : tie.After-number) → IsRefused (c .before .before .before .args .a) (c .before .code .result) (c .number .result)
 told c = is-refused _ _ _ (c .before .code .ensures) (c .number .ensures)
 
-code-requires : tie.Need-code-requires
-code-requires c κs = search needs
-
-cast-code : tie.Need-cast-code
-cast-code c = search needs
-
-number-requires : tie.Need-number-requires
-number-requires c κs = search needs
-
-slice-aggregate-put-bytes : tie.Need-slice-aggregate-put-bytes
-slice-aggregate-put-bytes c = search needs
-
 put-bytes-requires : tie.Need-put-bytes-requires
 put-bytes-requires c κs = omega (arith, told (c .before .before))
 
@@ -37,9 +25,6 @@ put-decimal-requires-2 c κs = omega (arith, told (c .before .before .before .be
 put-byte-requires-2 : tie.Need-put-byte-requires-2
 put-byte-requires-2 c κs = omega (arith, told (c .before .before .before .before .before .before .before .before .before .before .before .before .before .before .before .before .before .before))
 
-same-length : tie.Need-same-length
-same-length c = search needs
-
 returns : tie.Need-returns
 returns c =
     wrote-as (told (c .before .before .before .before .before .before .before .before .before .before .before .before .before .before .before .before .before .before .before .before .before) .line)
@@ -52,14 +37,14 @@ pub put-refused-spec : {M : Type 1} → statement M
 put-refused-spec =
     tie.close
     (tie.spec
-    code-requires
-    cast-code
-    number-requires
-    slice-aggregate-put-bytes
+    (λ c κs. search needs)
+    (λ c. search needs)
+    (λ c κs. search needs)
+    (λ c. search needs)
     put-bytes-requires
     put-decimal-requires
     put-byte-requires
     put-decimal-requires-2
     put-byte-requires-2
-    same-length
+    (λ c. search needs)
     returns)

@@ -7,17 +7,11 @@ use Rattle.listing.proofs.Lines.{size-length}
 use Rattle.listing.proofs.put_size_line.Statement.{statement}
 use Rattle.listing.proofs.put_size_line.Tie as tie
 
-slice-aggregate-put-bytes : tie.Need-slice-aggregate-put-bytes
-slice-aggregate-put-bytes c = search needs
-
 put-bytes-requires : tie.Need-put-bytes-requires
 put-bytes-requires c κs = omega (arith, size-length (c .before .before .before .args .size) (c .before .before .before .args .nets))
 
 put-decimal-requires : tie.Need-put-decimal-requires
 put-decimal-requires c κs = omega (arith, size-length (c .before .before .before .before .before .before .before .args .size) (c .before .before .before .before .before .before .before .args .nets))
-
-slice-aggregate-put-bytes-2 : tie.Need-slice-aggregate-put-bytes-2
-slice-aggregate-put-bytes-2 c = search needs
 
 put-bytes-requires-2 : tie.Need-put-bytes-requires-2
 put-bytes-requires-2 c κs = omega (arith, size-length (c .before .before .before .before .before .before .before .before .before .before .before .before .args .size) (c .before .before .before .before .before .before .before .before .before .before .before .before .args .nets))
@@ -27,9 +21,6 @@ put-decimal-requires-2 c κs = omega (arith, size-length (c .before .before .bef
 
 put-byte-requires : tie.Need-put-byte-requires
 put-byte-requires c κs = omega (arith, size-length (c .before .before .before .before .before .before .before .before .before .before .before .before .before .before .before .before .before .before .before .before .args .size) (c .before .before .before .before .before .before .before .before .before .before .before .before .before .before .before .before .before .before .before .before .args .nets))
-
-same-length : tie.Need-same-length
-same-length c = search needs
 
 returns : tie.Need-returns
 unfolding sizeLine
@@ -43,12 +34,12 @@ pub put-size-line-spec : {M : Type 1} → statement M
 put-size-line-spec =
     tie.close
     (tie.spec
-    slice-aggregate-put-bytes
+    (λ c. search needs)
     put-bytes-requires
     put-decimal-requires
-    slice-aggregate-put-bytes-2
+    (λ c. search needs)
     put-bytes-requires-2
     put-decimal-requires-2
     put-byte-requires
-    same-length
+    (λ c. search needs)
     returns)

@@ -7,20 +7,11 @@ use Rattle.listing.proofs.Lines.{terminal-length}
 use Rattle.listing.proofs.put_terminal.Statement.{statement}
 use Rattle.listing.proofs.put_terminal.Tie as tie
 
-put-byte-requires : tie.Need-put-byte-requires
-put-byte-requires c κs = search needs
-
-side-letter-requires : tie.Need-side-letter-requires
-side-letter-requires c κs = search needs
-
 put-byte-requires-2 : tie.Need-put-byte-requires-2
 put-byte-requires-2 c κs = omega (arith, terminal-length (c .before .before .before .before .before .before .before .args .t .side) (c .before .before .before .before .before .before .before .args .t .position))
 
 put-decimal-requires : tie.Need-put-decimal-requires
 put-decimal-requires c κs = omega (arith, terminal-length (c .before .before .before .before .before .before .before .before .before .before .before .args .t .side) (c .before .before .before .before .before .before .before .before .before .before .before .args .t .position))
-
-same-length : tie.Need-same-length
-same-length c = search needs
 
 returns : tie.Need-returns
 unfolding terminalText
@@ -32,9 +23,9 @@ pub put-terminal-spec : {M : Type 1} → statement M
 put-terminal-spec =
     tie.close
     (tie.spec
-    put-byte-requires
-    side-letter-requires
+    (λ c κs. search needs)
+    (λ c κs. search needs)
     put-byte-requires-2
     put-decimal-requires
-    same-length
+    (λ c. search needs)
     returns)

@@ -16,26 +16,14 @@ refused c = text-refused _ _ _ (c .before .before .read-job .ensures) (c .before
 read : (c : tie.Else1) → textOf (c .before .before .before .before .before .args .input .now) ≡ jobText (c .before .before .read-job .result .job)
 read c = text-read _ _ _ (c .before .before .read-job .ensures) (c .before .code .ensures) (c .if1 .left)
 
-read-job-requires : tie.Need-read-job-requires
-read-job-requires c κs = search needs
-
-code-requires : tie.Need-code-requires
-code-requires c κs = search needs
-
 put-refused-requires : tie.Need-put-refused-requires
 put-refused-requires c κs = omega (arith, ap length (refused (c .before)))
-
-same-length : tie.Need-same-length
-same-length c = search needs
 
 returns : tie.Need-returns
 returns c = wrote-as (refused (c .before .before .before .before)) (c .before .before .put-refused .ensures)
 
 put-job-requires : tie.Need-put-job-requires
 put-job-requires c κs = omega (arith, ap length (read (c .before)))
-
-same-length-2 : tie.Need-same-length-2
-same-length-2 c = search needs
 
 returns-2 : tie.Need-returns-2
 returns-2 c = wrote-as (read (c .before .before .before .before)) (c .before .before .put-job .ensures)
@@ -44,11 +32,11 @@ pub put-text-spec : {M : Type 1} → statement M
 put-text-spec =
     tie.close
     (tie.spec
-    read-job-requires
-    code-requires
+    (λ c κs. search needs)
+    (λ c κs. search needs)
     put-refused-requires
-    same-length
+    (λ c. search needs)
     returns
     put-job-requires
-    same-length-2
+    (λ c. search needs)
     returns-2)

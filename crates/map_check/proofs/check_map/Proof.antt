@@ -5,29 +5,14 @@ use Rattle.map_check.proofs.Tests.{by-closed, by-second, by-third}
 use Rattle.map_check.proofs.check_map.Statement.{statement}
 use Rattle.map_check.proofs.check_map.Tie as tie
 
-test-closed-requires : tie.Need-test-closed-requires
-test-closed-requires c κs = search needs
-
-code-requires : tie.Need-code-requires
-code-requires c κs = search needs
-
 returns : tie.Need-returns
 returns c = by-closed _ _ _ _ _ (c .before .before .test-closed .ensures) (c .before .code .ensures) (c .if1 .taken)
-
-test-counts-requires : tie.Need-test-counts-requires
-test-counts-requires c κs = search needs
-
-code-requires-2 : tie.Need-code-requires-2
-code-requires-2 c κs = search needs
 
 returns-2 : tie.Need-returns-2
 unfolding checkMap
 returns-2 c =
     by-second _ _ _ _ _ (c .before .before .before .before .before .test-closed .ensures) (c .before .before .before .before .code .ensures) _ _
     (c .before .before .test-counts .ensures) (c .before .code2 .ensures) (c .before .before .before .if1 .left) (c .if2 .taken)
-
-test-sums-requires : tie.Need-test-sums-requires
-test-sums-requires c κs = search needs
 
 returns-3 : tie.Need-returns-3
 unfolding checkMap
@@ -40,11 +25,11 @@ pub check-map-spec : {M : Type 1} → statement M
 check-map-spec =
     tie.close
     (tie.spec
-    test-closed-requires
-    code-requires
+    (λ c κs. search needs)
+    (λ c κs. search needs)
     returns
-    test-counts-requires
-    code-requires-2
+    (λ c κs. search needs)
+    (λ c κs. search needs)
     returns-2
-    test-sums-requires
+    (λ c κs. search needs)
     returns-3)

@@ -11,20 +11,8 @@ use Rattle.map_check.proofs.test_closed.Tie as tie
 served : (c : tie.Else2) → c .before .before .before .before .before .before .before .args .size ≤ 64
 served c = size-in _ _ _ (c .before .before .before .before .before .test-size .ensures) (c .before .before .before .before .code .ensures) (c .before .before .before .if1 .left) .1
 
-test-size-requires : tie.Need-test-size-requires
-test-size-requires c κs = search needs
-
-code-requires : tie.Need-code-requires
-code-requires c κs = search needs
-
 returns : tie.Need-returns
 returns c = by-size _ _ _ _ (c .before .before .test-size .ensures) (c .before .code .ensures) (c .if1 .taken)
-
-test-form-requires : tie.Need-test-form-requires
-test-form-requires c κs = search needs
-
-code-requires-2 : tie.Need-code-requires-2
-code-requires-2 c κs = search needs
 
 returns-2 : tie.Need-returns-2
 unfolding closedTest
@@ -34,9 +22,6 @@ returns-2 c =
 
 first-clash-requires : tie.Need-first-clash-requires
 first-clash-requires c κs = served c
-
-mul-if3 : tie.Need-mul-if3
-mul-if3 c = search needs
 
 cast-t10 : tie.Need-cast-t10
 cast-t10 c = omega (arith, served (c .before .before))
@@ -59,14 +44,14 @@ pub test-closed-spec : {M : Type 1} → statement M
 test-closed-spec =
     tie.close
     (tie.spec
-    test-size-requires
-    code-requires
+    (λ c κs. search needs)
+    (λ c κs. search needs)
     returns
-    test-form-requires
-    code-requires-2
+    (λ c κs. search needs)
+    (λ c κs. search needs)
     returns-2
     first-clash-requires
-    mul-if3
+    (λ c. search needs)
     cast-t10
     returns-3
     returns-4)

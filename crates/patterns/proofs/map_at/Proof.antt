@@ -7,35 +7,8 @@ use borrow.Author.Needs.{needs}
 use Rattle.patterns.proofs.map_at.Statement.{statement}
 use Rattle.patterns.proofs.map_at.Tie as tie
 
-map-length-requires : tie.Need-map-length-requires
-map-length-requires c κs = search needs
-
-add-end : tie.Need-add-end
-add-end c = search needs
-
-no-pattern-requires : tie.Need-no-pattern-requires
-no-pattern-requires c κs = search needs
-
 returns : tie.Need-returns
 returns c = c .no-pattern .ensures ∙ bytes-after _ _ _ (c .before .before .map-length .ensures) (omega arith)
-
-sub-check-map : tie.Need-sub-check-map
-sub-check-map c = search needs
-
-part-check-map-start : tie.Need-part-check-map-start
-part-check-map-start c = search needs
-
-part-check-map-end : tie.Need-part-check-map-end
-part-check-map-end c = search needs
-
-check-map-requires : tie.Need-check-map-requires
-check-map-requires c κs = search needs
-
-enum-told : tie.Need-enum-told
-enum-told c = search needs
-
-no-pattern-requires-2 : tie.Need-no-pattern-requires-2
-no-pattern-requires-2 c κs = search needs
 
 returns-2 : tie.Need-returns-2
 returns-2 c =
@@ -53,15 +26,15 @@ pub map-at-spec : {M : Type 1} → statement M
 map-at-spec =
     tie.close
     (tie.spec
-    map-length-requires
-    add-end
-    no-pattern-requires
+    (λ c κs. search needs)
+    (λ c. search needs)
+    (λ c κs. search needs)
     returns
-    sub-check-map
-    part-check-map-start
-    part-check-map-end
-    check-map-requires
-    enum-told
-    no-pattern-requires-2
+    (λ c. search needs)
+    (λ c. search needs)
+    (λ c. search needs)
+    (λ c κs. search needs)
+    (λ c. search needs)
+    (λ c κs. search needs)
     returns-2
     returns-3)

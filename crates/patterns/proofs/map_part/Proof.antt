@@ -8,32 +8,11 @@ use borrow.Author.Needs.{needs}
 use Rattle.patterns.proofs.map_part.Statement.{statement}
 use Rattle.patterns.proofs.map_part.Tie as tie
 
-slice-aggregate-result : tie.Need-slice-aggregate-result
-slice-aggregate-result c = search needs
-
 returns : tie.Need-returns
 returns c = part-outside (now (c .before .before .args .s)) (c .before .before .args .read) (omega arith)
 
-sub-if2 : tie.Need-sub-if2
-sub-if2 c = search needs
-
-slice-aggregate-result-2 : tie.Need-slice-aggregate-result-2
-slice-aggregate-result-2 c = search needs
-
 returns-2 : tie.Need-returns-2
 returns-2 c = part-outside (now (c .before .before .before .args .s)) (c .before .before .before .args .read) (omega arith)
-
-add-end : tie.Need-add-end
-add-end c = search needs
-
-sub-result : tie.Need-sub-result
-sub-result c = search needs
-
-part-result-start : tie.Need-part-result-start
-part-result-start c = search needs
-
-part-result-end : tie.Need-part-result-end
-part-result-end c = search needs
 
 returns-3 : tie.Need-returns-3
 returns-3 c =
@@ -44,13 +23,13 @@ pub map-part-spec : {M : Type 1} → statement M
 map-part-spec =
     tie.close
     (tie.spec
-    slice-aggregate-result
+    (λ c. search needs)
     returns
-    sub-if2
-    slice-aggregate-result-2
+    (λ c. search needs)
+    (λ c. search needs)
     returns-2
-    add-end
-    sub-result
-    part-result-start
-    part-result-end
+    (λ c. search needs)
+    (λ c. search needs)
+    (λ c. search needs)
+    (λ c. search needs)
     returns-3)

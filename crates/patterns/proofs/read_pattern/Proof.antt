@@ -44,43 +44,10 @@ faulty : (c : tie.After-enum-told2) →
     fieldAt (bytes (head f .before .before)) (next f) 3 (f .before .map-length .result) ≡ Faulty (c .enum-told2 .given .0 .0)
 faulty c = sym (c .before .before .field-at .ensures) ∙ c .enum-told2 .given .1
 
-read-head-requires : tie.Need-read-head-requires
-read-head-requires c κs = search needs
-
-enum-known-head : tie.Need-enum-known-head
-enum-known-head c = search needs
-
-enum-told : tie.Need-enum-told
-enum-told c = search needs
-
-head-answer-requires : tie.Need-head-answer-requires
-head-answer-requires c κs = search needs
-
-no-pattern-requires : tie.Need-no-pattern-requires
-no-pattern-requires c κs = search needs
-
 returns : tie.Need-returns
 returns c =
     c .no-pattern .ensures ∙ ap noPattern (c .before .head-answer .ensures ∙ ap headAnswer (c .before .before .enum-told .given .1))
     ∙ no-head _ (refused (c .before .before))
-
-map-length-requires : tie.Need-map-length-requires
-map-length-requires c κs = search needs
-
-field-at-requires : tie.Need-field-at-requires
-field-at-requires c κs = search needs
-
-enum-known-third : tie.Need-enum-known-third
-enum-known-third c = search needs
-
-enum-told-2 : tie.Need-enum-told-2
-enum-told-2 c = search needs
-
-field-answer-requires : tie.Need-field-answer-requires
-field-answer-requires c κs = search needs
-
-no-pattern-requires-2 : tie.Need-no-pattern-requires-2
-no-pattern-requires-2 c κs = search needs
 
 returns-2 : tie.Need-returns-2
 returns-2 c =
@@ -101,18 +68,18 @@ pub read-pattern-spec : {M : Type 1} → statement M
 read-pattern-spec =
     tie.close
     (tie.spec
-    read-head-requires
-    enum-known-head
-    enum-told
-    head-answer-requires
-    no-pattern-requires
+    (λ c κs. search needs)
+    (λ c. search needs)
+    (λ c. search needs)
+    (λ c κs. search needs)
+    (λ c κs. search needs)
     returns
-    map-length-requires
-    field-at-requires
-    enum-known-third
-    enum-told-2
-    field-answer-requires
-    no-pattern-requires-2
+    (λ c κs. search needs)
+    (λ c κs. search needs)
+    (λ c. search needs)
+    (λ c. search needs)
+    (λ c κs. search needs)
+    (λ c κs. search needs)
     returns-2
     map-at-requires
     returns-3)

@@ -14,12 +14,6 @@ use borrow.Author.Needs.{needs}
 use Rattle.patterns.proofs.write_pattern.Statement.{statement}
 use Rattle.patterns.proofs.write_pattern.Tie as tie
 
-check-map-requires : tie.Need-check-map-requires
-check-map-requires c κs = search needs
-
-enum-told : tie.Need-enum-told
-enum-told c = search needs
-
 returns : tie.Need-returns
 unfolding patternAnswer patternRoom
 returns c =
@@ -33,15 +27,6 @@ passed : (c : tie.After-enum-told) →
     checkJob (start .job) (now (start .map)) ≡ Done
 passed c = sym (c .before .before .check-map .ensures) ∙ c .enum-told .given .1
 
-head-length-requires : tie.Need-head-length-requires
-head-length-requires c κs = search needs
-
-add-needed : tie.Need-add-needed
-add-needed c = search needs
-
-add-needed-2 : tie.Need-add-needed-2
-add-needed-2 c = search needs
-
 returns-2 : tie.Need-returns-2
 unfolding patternAnswer patternRoom
 returns-2 c =
@@ -54,15 +39,6 @@ put-head-requires c κs = omega (arith, checked _ _ _ (passed (c .before .before
 
 put-tag-requires : tie.Need-put-tag-requires
 put-tag-requires c κs = let told = c .before .before .before .before .before .before .before in omega (arith, checked _ _ _ (passed told))
-
-add-put-bytes : tie.Need-add-put-bytes
-add-put-bytes c = search needs
-
-put-bytes-requires : tie.Need-put-bytes-requires
-put-bytes-requires c κs = search needs
-
-same-length : tie.Need-same-length
-same-length c = search needs
 
 returns-3 : tie.Need-returns-3
 unfolding patternAnswer patternRoom
@@ -81,16 +57,16 @@ pub write-pattern-spec : {M : Type 1} → statement M
 write-pattern-spec =
     tie.close
     (tie.spec
-    check-map-requires
-    enum-told
+    (λ c κs. search needs)
+    (λ c. search needs)
     returns
-    head-length-requires
-    add-needed
-    add-needed-2
+    (λ c κs. search needs)
+    (λ c. search needs)
+    (λ c. search needs)
     returns-2
     put-head-requires
     put-tag-requires
-    add-put-bytes
-    put-bytes-requires
-    same-length
+    (λ c. search needs)
+    (λ c κs. search needs)
+    (λ c. search needs)
     returns-3)

@@ -7,29 +7,11 @@ use Rattle.router.proofs.Blocks.{type-mul, nets-most, closed-one, close
 use Rattle.router.proofs.close_one.Statement.{statement}
 use Rattle.router.proofs.close_one.Tie as tie
 
-sub-count-at : tie.Need-sub-count-at
-sub-count-at c = search needs
-
-count-at-requires : tie.Need-count-at-requires
-count-at-requires c κs = search needs
-
-sub-close-relay : tie.Need-sub-close-relay
-sub-close-relay c = search needs
-
 mul-close-relay : tie.Need-mul-close-relay
 mul-close-relay c = omega (arith, type-mul (c .before .before .before .before .args .kind) (c .before .before .before .before .args .w) (omega arith))
 
-sub-close-relay-2 : tie.Need-sub-close-relay-2
-sub-close-relay-2 c = search needs
-
 add-close-relay : tie.Need-add-close-relay
 add-close-relay c = omega (arith, type-mul (c .before .before .before .before .args .kind) (c .before .before .before .before .args .w) (omega arith))
-
-close-relay-requires : tie.Need-close-relay-requires
-close-relay-requires c κs = search needs
-
-same-length : tie.Need-same-length
-same-length c = search needs
 
 returns : tie.Need-returns
 returns c = closed-one _ _ _ _ (sym (c .before .before .before .before .before .count-at .ensures) ∙ c .before .before .before .before .if1 .taken) (c .before .before .close-relay .ensures)
@@ -43,13 +25,13 @@ pub close-one-spec : {M : Type 1} → statement M
 close-one-spec =
     tie.close
     (tie.spec
-    sub-count-at
-    count-at-requires
-    sub-close-relay
+    (λ c. search needs)
+    (λ c κs. search needs)
+    (λ c. search needs)
     mul-close-relay
-    sub-close-relay-2
+    (λ c. search needs)
     add-close-relay
-    close-relay-requires
-    same-length
+    (λ c κs. search needs)
+    (λ c. search needs)
     returns
     returns-2)

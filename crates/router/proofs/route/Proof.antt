@@ -19,38 +19,14 @@ served c = sym (c .before .before .test-size .ensures) ∙ c .enum-told .given .
 nowhere : (c : tie.After-enum-told2) → firstOver (c .before .before .before .before .before .before .before .before .before .args .size) (countList (c .before .before .before .before .before .before .before .before .before .args .counts)) ≡ Nowhere
 nowhere c = sym (c .before .before .first-over .ensures) ∙ c .enum-told2 .given .1
 
-test-size-requires : tie.Need-test-size-requires
-test-size-requires c κs = search needs
-
-enum-told : tie.Need-enum-told
-enum-told c = search needs
-
 returns : tie.Need-returns
 returns c = out-size _ _ _ _ (c .before .test-size .ensures) (else-refused (c .before .test-size .result) (c .match .keys2))
-
-map-length-requires : tie.Need-map-length-requires
-map-length-requires c κs = search needs
 
 returns-2 : tie.Need-returns-2
 returns-2 c = out-room _ _ _ (served (c .before .before)) _ (c .before .map-length .ensures) (c .if1 .taken)
 
-first-over-requires : tie.Need-first-over-requires
-first-over-requires c κs = search needs
-
-enum-told-2 : tie.Need-enum-told-2
-enum-told-2 c = search needs
-
-enum-told-3 : tie.Need-enum-told-3
-enum-told-3 c = search needs
-
-overfull-answer-requires : tie.Need-overfull-answer-requires
-overfull-answer-requires c κs = search needs
-
 returns-3 : tie.Need-returns-3
 returns-3 c = out-over _ _ _ (served (c .before .before .before .before .before .before)) _ (c .before .before .before .before .before .map-length .ensures) (c .before .before .before .before .if1 .left) _ _ _ _ (c .before .before .before .first-over .ensures) (c .before .enum-told3 .given .1) (c .overfull-answer .ensures)
-
-clear-requires : tie.Need-clear-requires
-clear-requires c κs = search needs
 
 close-all-requires : tie.Need-close-all-requires
 close-all-requires c κs =
@@ -59,9 +35,6 @@ close-all-requires c κs =
       size-is (start .args .size) (rw (served (c .before .before .before .before .before .before .before .before .before .before))) .1,
     )
 
-same-length : tie.Need-same-length
-same-length c = search needs
-
 returns-4 : tie.Need-returns-4
 returns-4 c = out-done _ _ _ (served (c .before .before .before .before .before .before .before .before .before .before .before .before .before)) _ (c .before .before .before .before .before .before .before .before .before .before .before .before .map-length .ensures) (c .before .before .before .before .before .before .before .before .before .before .before .if1 .left) (nowhere (c .before .before .before .before .before .before .before .before)) _ _ (c .before .before .before .before .before .before .clear .ensures) (c .before .before .close-all .ensures)
 
@@ -69,17 +42,17 @@ pub route-spec : {M : Type 1} → statement M
 route-spec =
     tie.close
     (tie.spec
-    test-size-requires
-    enum-told
+    (λ c κs. search needs)
+    (λ c. search needs)
     returns
-    map-length-requires
+    (λ c κs. search needs)
     returns-2
-    first-over-requires
-    enum-told-2
-    enum-told-3
-    overfull-answer-requires
+    (λ c κs. search needs)
+    (λ c. search needs)
+    (λ c. search needs)
+    (λ c κs. search needs)
     returns-3
-    clear-requires
+    (λ c κs. search needs)
     close-all-requires
-    same-length
+    (λ c. search needs)
     returns-4)

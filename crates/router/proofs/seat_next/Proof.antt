@@ -6,11 +6,5 @@ use Rattle.router.proofs.seat_next.Tie as tie
 returns : tie.Need-returns
 returns c = rw (c .if1 .taken) (c .before .pre .2)
 
-seat-row-requires : tie.Need-seat-row-requires
-seat-row-requires c κs = search needs
-
-returns-2 : tie.Need-returns-2
-returns-2 c = search needs
-
 pub seat-next-spec : {M : Type 1} → statement M
-seat-next-spec = tie.close (tie.spec returns seat-row-requires returns-2)
+seat-next-spec = tie.close (tie.spec returns (λ c κs. search needs) (λ c. search needs))

@@ -7,12 +7,6 @@ use Rattle.router.proofs.Blocks.{seat-asks, seated-row}
 use Rattle.router.proofs.seat_row.Statement.{statement}
 use Rattle.router.proofs.seat_row.Tie as tie
 
-nets-of-requires : tie.Need-nets-of-requires
-nets-of-requires c κs = search needs
-
-array-share-prefix-types : tie.Need-array-share-prefix-types
-array-share-prefix-types c = search needs
-
 slice-aggregate-seat : tie.Need-slice-aggregate-seat
 slice-aggregate-seat c = sym (length-take-le _ _ (omega arith))
 
@@ -27,4 +21,4 @@ returns c =
 pub seat-row-spec : {M : Type 1} → statement M
 seat-row-spec =
     tie.close
-    (tie.spec nets-of-requires array-share-prefix-types slice-aggregate-seat seat-requires returns)
+    (tie.spec (λ c κs. search needs) (λ c. search needs) slice-aggregate-seat seat-requires returns)

@@ -53,50 +53,14 @@ faulty₂ c = sym (c .before .before .field-from2 .ensures) ∙ c .enum-told3 .g
 there₂ : (c : tie.After-second) → fieldAt (bytes₁ (sized (c .before .before))) (size (sized (c .before .before)) + 1) 2 12 ≡ There (c .second .given .0 .0)
 there₂ c = sym (c .before .before .field-from2 .ensures) ∙ c .second .given .1
 
-field-from-requires : tie.Need-field-from-requires
-field-from-requires c κs = search needs
-
-enum-known-first : tie.Need-enum-known-first
-enum-known-first c = search needs
-
-enum-told : tie.Need-enum-told
-enum-told c = search needs
-
-field-answer-requires : tie.Need-field-answer-requires
-field-answer-requires c κs = search needs
-
 returns : tie.Need-returns
 returns c = c .field-answer .ensures ∙ ap fieldAnswer (c .before .enum-told .given .1) ∙ no-size _ (faulty₁ (c .before))
-
-byte-at-requires : tie.Need-byte-at-requires
-byte-at-requires c κs = search needs
-
-cast-test-size : tie.Need-cast-test-size
-cast-test-size c = search needs
-
-test-size-requires : tie.Need-test-size-requires
-test-size-requires c κs = search needs
-
-enum-told-2 : tie.Need-enum-told-2
-enum-told-2 c = search needs
 
 returns-2 : tie.Need-returns-2
 returns-2 c = tested (c .before) ∙ unserved _ (there₁ (first (c .before))) (ap isDone (sym (tested (c .before))) ∙ else-refused (c .before .test-size .result) (c .match2 .keys2))
 
 add-field-from : tie.Need-add-field-from
 add-field-from c = omega (arith, found _ _ _ _ _ (there₁ (first (c .before .before))))
-
-field-from-requires-2 : tie.Need-field-from-requires-2
-field-from-requires-2 c κs = search needs
-
-enum-known-second : tie.Need-enum-known-second
-enum-known-second c = search needs
-
-enum-told-3 : tie.Need-enum-told-3
-enum-told-3 c = search needs
-
-field-answer-requires-2 : tie.Need-field-answer-requires-2
-field-answer-requires-2 c κs = search needs
 
 returns-3 : tie.Need-returns-3
 returns-3 c =
@@ -105,9 +69,6 @@ returns-3 c =
 
 add-next : tie.Need-add-next
 add-next c = omega (arith, found _ _ _ _ _ (there₂ (c .before)))
-
-left-from-requires : tie.Need-left-from-requires
-left-from-requires c κs = search needs
 
 returns-4 : tie.Need-returns-4
 returns-4 c =
@@ -125,23 +86,23 @@ pub job-answer-spec : {M : Type 1} → statement M
 job-answer-spec =
     tie.close
     (tie.spec
-    field-from-requires
-    enum-known-first
-    enum-told
-    field-answer-requires
+    (λ c κs. search needs)
+    (λ c. search needs)
+    (λ c. search needs)
+    (λ c κs. search needs)
     returns
-    byte-at-requires
-    cast-test-size
-    test-size-requires
-    enum-told-2
+    (λ c κs. search needs)
+    (λ c. search needs)
+    (λ c κs. search needs)
+    (λ c. search needs)
     returns-2
     add-field-from
-    field-from-requires-2
-    enum-known-second
-    enum-told-3
-    field-answer-requires-2
+    (λ c κs. search needs)
+    (λ c. search needs)
+    (λ c. search needs)
+    (λ c κs. search needs)
     returns-3
     add-next
-    left-from-requires
+    (λ c κs. search needs)
     returns-4
     returns-5)

@@ -1,0 +1,6 @@
+pub mod Touched
+pub mod Laid
+pub mod Serve
+pub mod Listed
+pub mod Joining
+pub mod Carry
