@@ -5,25 +5,24 @@ use mathlib.Core.Logic.{_⊎_, inl, inr}
 use mathlib.Core.Bool.{true, false, _||_}
 use mathlib.Core.List.{List, [], _∷_, _++_, map, map-map}
 use native.Mathlib.Omega.{arith}
-use Rattle.wiring.specs.Count.{count}
-use Rattle.wiring.specs.Lists.{among}
+use Rattle.counting.specs.Count.{count}
+use Rattle.counting.specs.Lists.{among}
 use Rattle.wiring.specs.Wiring.{nets, Touches, Apart, fromSide}
 use Rattle.wiring.specs.Frame.{relay, typeIn, placeIn, frame}
-use Rattle.wiring.proofs.Bools.{clear, or-cases}
-use Rattle.wiring.proofs.Lists.{among-append, member-map, member-here, member-there, no-member}
-use Rattle.wiring.proofs.Counting.{count-ext, count-none}
-use Rattle.wiring.proofs.Numbers.{place-in}
-use Rattle.wiring.proofs.Tally.{count-or}
-use Rattle.wiring.proofs.Map.{getD-zeros}
+use Rattle.counting.proofs.Bools.{clear, or-cases}
+use Rattle.counting.proofs.Lists.{among-append, member-map, member-here, member-there, no-member, between-member, getD-alike}
+use Rattle.counting.proofs.Counting.{count-ext, count-none}
+use Rattle.counting.proofs.Tally.{count-or}
+use Rattle.wiring.proofs.Relays.{place-in}
+use Rattle.wiring.proofs.Terminals.{distinct-apart}
 use Rattle.frame.specs.declared.Counts.{Counts}
 use Rattle.frame.specs.Leaves.{counts, countList}
 use Rattle.loads.specs.Load.{less}
 use Rattle.loads.specs.Seat.{netList}
-use Rattle.loads.proofs.Counts.{Within, Part, net-less, counts-eq}
+use Rattle.loads.proofs.Counts.{SumsWithin, Part, net-less, counts-eq}
 use Rattle.loads.proofs.Seats.{Cell, centreCell}
 use Rattle.cells.specs.Serve.{lowHigh, centre}
 use Rattle.cells.proofs.Laid.{Laid, lay, Of, lay-joins, lay-of, lay-apart, lay-count}
-use Rattle.cells.proofs.Touched.{distinct-apart, between-at}
 use Rattle.cells.specs.Cells.{cellOf, cellAt, size}
 use Rattle.cells.proofs.Listed.{IsCell, which}
 
@@ -43,13 +42,13 @@ elsewhere {W} f g = record {
 -- a cell of size s, laid into the frame
 pub good-cell : {s W : ℕ} {place : ℕ → ℕ} {n : Counts} {ks : List ℕ} → Laid s W place → 1 ≤ s → Cell s n ks → Good W (Of s place) n (map (lay s W place) ks)
 good-cell {s} {W} {place} {n} {ks} laid some cell = record {
-  apart = lay-apart s W place laid ks below (distinct-apart s ks (cell .apart));
+  apart = lay-apart s W place laid ks below (distinct-apart (frame s) ks (cell .apart));
   inside = λ k e. let m = member-map (lay s W place) k ks e in let h = below (m .0) (m .1) in rw (← m .2) (lay-joins s W place laid (m .0) h .there, lay-of s W place laid (m .0) h);
   counts = λ c x y. lay-count s W place laid ks below c x y ∙ cell .counts c x y;
 }
   where
     below : (k : ℕ) → among k ks ≡ true → k < 6 * s
-    below k e = omega (arith, between-at 0 (6 * s - 1) k ks (cell .below) e)
+    below k e = omega (arith, between-member 0 (6 * s - 1) k ks (cell .below) e)
 
 -- position q is in cell p, and in one of the cells ps
 abbrev pub In : ℕ → ℕ → ℕ → Type 0
@@ -106,12 +105,12 @@ centre-laid W p n =
     rw (z, y)))
 
 -- no cells
-pub good-none : (W : ℕ) (n : Counts) → Within 0 n → Good W (Among W []) n []
+pub good-none : (W : ℕ) (n : Counts) → SumsWithin 0 n → Good W (Among W []) n []
 unfolding among
 good-none W n w = record {
   apart = λ s x j k hj hk cj ck u v. absurd (no-member j cj);
   inside = λ k e. absurd (no-member k e);
-  counts = λ c x y. count-none W (λ i. false) (λ i h. refl) ∙ rw empty (sym (getD-zeros 6 (c - 1)));
+  counts = λ c x y. count-none W (λ i. false) (λ i h. refl) ∙ rw empty (sym (getD-alike {A = ℕ} 6 (c - 1) 0));
 }
   where
     empty : n ≡ counts 0 0 0 0 0 0

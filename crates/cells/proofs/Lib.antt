@@ -1,4 +1,3 @@
-pub mod Touched
 pub mod Laid
 pub mod Serve
 pub mod Listed

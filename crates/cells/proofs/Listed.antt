@@ -7,10 +7,10 @@ use mathlib.Core.List.{List, [], _∷_}
 use native.Mathlib.Omega.{arith}
 use native.Mathlib.Decide.{ℕ-discrete}
 use borrow.Author.Tests.{eq-eqb, ne-eqb}
-use Rattle.wiring.specs.Lists.{among}
-use Rattle.wiring.proofs.Bools.{clear, fails}
-use Rattle.wiring.proofs.Lists.{member-cases, member-here, member-there, no-member}
-use Rattle.wiring.proofs.Numbers.{place-in}
+use Rattle.counting.specs.Lists.{among}
+use Rattle.counting.proofs.Bools.{clear, fails}
+use Rattle.counting.proofs.Lists.{member-cases, member-here, member-there, no-member}
+use Rattle.wiring.proofs.Relays.{place-in}
 use Rattle.cells.specs.Cells.{cellAt, size, capacity, run, cells, without}
 use Rattle.cells.proofs.Serve.{size-centre, size-block, holds-all}
 
@@ -52,7 +52,8 @@ listed-run : (W p m : ℕ) → 1 ≤ p → p + m ≤ (W + 1) / 2 + 1 → Listed 
 unfolding run
 listed-run W p zero a b = none
 listed-run W p (suc m) a b =
-    next (record { low = a; half = omega arith }) (fails (among p (run (suc p) m)) (λ e. omega (arith, run-member (suc p) m p e))) (λ e. last e m b) (listed-run W (suc p) m (omega arith) (omega arith))
+    next (record { low = a; half = omega arith }) (fails (among p (run (suc p) m)) (λ e. omega (arith, run-member (suc p) m p e))) (λ e. last e m b)
+    (listed-run W (suc p) m (omega arith) (omega arith))
   where
     last : p + p ≡ W + 1 → (m : ℕ) → p + suc m ≤ (W + 1) / 2 + 1 → run (suc p) m ≡ []
     last e zero b = refl

@@ -1,5 +1,5 @@
-pub mod Search
+pub mod LowestFree
 pub mod Answers
-pub mod Outcomes
-pub mod Laws
+pub mod Ways
+pub mod Kept
 pub mod Promises

@@ -5,9 +5,9 @@ ghost use Prim.Native.Nat.{_≤_};
 ghost use Rattle.wiring.specs.Frame.{frame};
 ghost use Rattle.wiring.specs.Map.{closedIn};
 ghost use Rattle.wiring.specs.Change.{lowestFree};
-ghost use Rattle.wiring.specs.Calls.{add, drop};
+ghost use Rattle.wiring.specs.Calls.{adding, dropping};
 ghost use Rattle.changes.specs.Start.{openAnswer, openRoom, startTest};
-ghost use Rattle.changes.specs.Calls.{typeTest, callAnswer, callMap, addNet, addedAnswer};
+ghost use Rattle.changes.specs.Technician.{typeTest, callAnswer, callMap, addNet, addedAnswer};
 use answers::Answer;
 
 // The relay that an added net closed; or why there is none.
@@ -83,7 +83,7 @@ fn lowest_free(size: usize, map: &[u8], kind: usize) -> usize
 // Adds a net of a type: closes the lowest relay of that type with both terminals free.
 pub fn add_net(size: u16, map: &mut [u8], kind: u16) -> Added
     ensures { λ r. ⌜ r ≡ addNet size (now (map .entry)) kind ⌝ }
-    ensures { λ _. ⌜ now (map .exit) ≡ callMap size (now (map .entry)) (add kind) ⌝ }
+    ensures { λ _. ⌜ now (map .exit) ≡ callMap size (now (map .entry)) (adding kind) ⌝ }
 {
     let started = test_start(size, map);
     let Answer::Done = started else {
@@ -103,8 +103,8 @@ pub fn add_net(size: u16, map: &mut [u8], kind: u16) -> Added
 
 // Drops the net of a relay: opens it.
 pub fn drop_net(size: u16, map: &mut [u8], relay: u16) -> Answer
-    ensures { λ r. ⌜ r ≡ callAnswer size (now (map .entry)) (drop relay) ⌝ }
-    ensures { λ _. ⌜ now (map .exit) ≡ callMap size (now (map .entry)) (drop relay) ⌝ }
+    ensures { λ r. ⌜ r ≡ callAnswer size (now (map .entry)) (dropping relay) ⌝ }
+    ensures { λ _. ⌜ now (map .exit) ≡ callMap size (now (map .entry)) (dropping relay) ⌝ }
 {
     let started = test_start(size, map);
     let Answer::Done = started else {

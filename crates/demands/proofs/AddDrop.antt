@@ -1,47 +1,39 @@
 -- What is promised of nets that are added and dropped one by one holds. Assumes nothing.
-use Prim.Native.Nat.{ℕ, _<_}
+use Prim.Native.Nat.{ℕ}
 use mathlib.Core.Path.{_≡_, sym, ap, _∙_}
 use mathlib.Core.List.{List}
-use native.Mathlib.Omega.{arith}
-use native.Mathlib.Decide.{decLt}
-use lib.ListN.{length, getD, List·getD-eq-default}
 use Rattle.answers.specs.declared.Answer.the-variants.{Done}
-use Rattle.answers.proofs.Laws.{is-done, both-done}
+use Rattle.answers.proofs.Done.{is-done, not-done, both-done}
+use Rattle.answers.proofs.Lent.{room-stays}
 use Rattle.wiring.specs.Frame.{frame}
-use Rattle.wiring.specs.Map.{closedIn, IsMap}
+use Rattle.wiring.specs.Map.{closedIn}
 use Rattle.wiring.proofs.Change.{apart-ext, carries-none}
 use Rattle.wiring.proofs.Map.{zeros-map, closed-zeros}
 use Rattle.wiring.proofs.Calls.{closed-stands, stands-closed}
 use Rattle.frame.specs.Leaves.{mapBytes}
 use Rattle.frame.specs.Tests.{sizeTest}
 use Rattle.frame.proofs.Tests.{size-is}
+use Rattle.frame.proofs.Grounds.{asked-codes, asked-told}
 use Rattle.router.specs.Route.{mapFor}
-use Rattle.map_check.proofs.Laws.{Closable, closed-is, is-closed-map}
+use Rattle.map_check.proofs.Meaning.{Closable, closed-is, is-closed-map}
+use Rattle.map_check.proofs.Told.{closed-told}
 use Rattle.jobs.specs.declared.Job.{Job}
 use Rattle.changes.specs.Start.{openAnswer, openMap, openRoom, startTest}
-use Rattle.changes.specs.Calls.{callAnswer}
-use Rattle.changes.proofs.Answers.{start-first, drop-not-there, drop-granted}
-use Rattle.changes.proofs.Outcomes.{added-answer, map-refused}
-use Rattle.changes.proofs.Laws.{calls-closable, calls-closed}
+use Rattle.changes.specs.Technician.{callAnswer}
+use Rattle.changes.proofs.Answers.{start-first, drop-not-there, drop-granted, start-codes, add-codes, drop-codes}
+use Rattle.changes.proofs.Ways.{added-answer, map-refused}
+use Rattle.changes.proofs.Kept.{calls-closable, calls-closed}
 use Rattle.changes.proofs.Promises.{named-lowest, add-own, add-opens-none, add-no-type, taken-nineteen, not-taken-done, nineteen-taken, dropped-own, dropped-free, dropped-serves, dropped-carries, added-carries}
-use Rattle.demands.specs.Demands.{Bytes, Pattern}
+use Rattle.demands.specs.Demands.{Pattern}
 use Rattle.demands.specs.AddDrop.{Start, AddDrop}
-use Rattle.demands.proofs.Parts.{not-done, room-stays}
 use Rattle.demands.proofs.Demands.{routed-pattern}
 
 -- a start is a map that may be closed, and the other way
 closable : (W : ℕ) (m : List ℕ) → Start W m → Closable W m
-closable W m s = closed-is W m (λ i h. s .0 i) (is-done _ (s .1))
-
-map-bytes : (relays : ℕ) (m : List ℕ) → IsMap relays m → Bytes m
-map-bytes relays m a i = go (decLt i (length m))
-  where
-    go : Dec (i < length m) → getD m i 0 < 256
-    go (yes h) = a .bytes i h
-    go (no h) = rw (List·getD-eq-default m 0 {n = i} (omega arith)) (omega arith)
+closable W m s = closed-is W m (s .0) (is-done _ (s .1))
 
 starts : (W : ℕ) (m : List ℕ) → Closable W m → Start W m
-starts W m x = (map-bytes (frame W .relays) m (x .map), is-closed-map W m x)
+starts W m x = (x .map .bytes, is-closed-map W m x)
 
 -- what carries a job may be closed
 pattern-closable : (j : Job) (m : List ℕ) → Pattern j m → Closable (j .size) m
@@ -57,13 +49,19 @@ open-closable W room e = record {
 }
 
 pub add-drop : AddDrop
-unfolding openRoom
+unfolding openAnswer openRoom
 add-drop = record {
   open-starts = λ W room e. (starts W (openMap W) (open-closable W room e), rw (is-done _ e));
   routed-starts = λ W n room e. starts W (mapFor W n) (pattern-closable (record { size = W; counts = n }) (mapFor W n) (routed-pattern W n room e));
   pattern-starts = λ j m p. starts (j .size) m (pattern-closable j m p);
   start-refused = λ W m call f. start-first W m call (not-done (startTest W m) f);
   added = added-answer;
+  open-codes = λ W room. asked-codes W (mapBytes W) room;
+  start-codes = start-codes;
+  add-codes = add-codes;
+  drop-codes = drop-codes;
+  open-told = λ W room. asked-told W (mapBytes W) room;
+  start-told = closed-told;
   opening-refused = λ W room f. room-stays (openAnswer W room) (openMap W) room f;
   call-refused = λ W m call f. map-refused W m call (not-done (callAnswer W m call) f);
   starts-again = λ W m calls s. starts W _ (calls-closable W m calls (closable W m s));

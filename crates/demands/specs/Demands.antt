@@ -3,84 +3,124 @@
 -- call has a `requires`. (A few leaves that only our own crates call have one; docs/DECISIONS.md lists them.) Assumes nothing.
 use Prim.Native.Nat.{ℕ, _+_, _≤_, _<_}
 use mathlib.Core.Path.{_≡_}
-use mathlib.Core.Bool.{Bool, true, _&&_, _||_}
-use mathlib.Core.List.{List, [], _++_}
-use lib.Dec.{leb}
-use lib.ListN.{length, getD, take, drop}
+use mathlib.Core.Bool.{Bool, true, _&&_}
+use mathlib.Core.List.{List, [], _∷_, _++_}
+use lib.Dec.{eqb}
+use lib.ListN.{length, take, drop, replicate}
+use Rattle.counting.specs.Count.{count}
+use Rattle.counting.specs.Lists.{among, Bytes}
 use Rattle.answers.specs.declared.Side.{Side}
 use Rattle.answers.specs.declared.Answer.{Answer}
 use Rattle.answers.specs.declared.Answer.the-variants.{Done, Overfull}
-use Rattle.answers.specs.Table.{sideNumber, codeOf}
+use Rattle.answers.specs.Table.{codeOf, numberOf, CodeIn}
 use Rattle.answers.specs.Lent.{over}
-use Rattle.wiring.specs.Wiring.{sideSum, Carries}
+use Rattle.wiring.specs.Wiring.{earlier, later, Within, Carries}
 use Rattle.wiring.specs.Frame.{four, frame}
-use Rattle.wiring.specs.Map.{IsMap, MapCarries}
+use Rattle.wiring.specs.Map.{closedIn, IsMap, MapCarries}
 use Rattle.frame.specs.declared.Counts.{Counts}
 use Rattle.frame.specs.Leaves.{countList, mapBytes}
-use Rattle.router.specs.Route.{mapFor}
+use Rattle.frame.specs.Tests.{Served}
+use Rattle.frame.specs.Told.{RoomTold, SideTold}
+use Rattle.router.specs.Route.{relaysFor, mapFor}
 use Rattle.router.specs.Router.{routeAnswer, routeRoom}
 use Rattle.map_check.specs.Check.{checkMap}
+use Rattle.map_check.specs.Told.{MapTold}
 use Rattle.jobs.specs.declared.Job.{Job}
+use Rattle.jobs.specs.Format.{jobRecord}
 use Rattle.jobs.specs.Read.{emptyJob, readJob}
 use Rattle.jobs.specs.Write.{jobAnswer, jobRoom}
-use Rattle.patterns.specs.Read.{readPattern}
+use Rattle.jobs.specs.Told.{WholeJob, ReadTold}
+use Rattle.patterns.specs.Format.{patternRecord}
+use Rattle.patterns.specs.Read.{part, checkJob, readPattern}
 use Rattle.patterns.specs.Part.{mapPart}
 use Rattle.patterns.specs.Write.{patternAnswer, patternRoom}
-
--- sizes 1 to 64 are served
-abbrev pub Served : ℕ → Type 0
-Served W = (1 ≤ W) × (W ≤ 64)
-
--- a list of bytes, as every lent slice is
-abbrev pub Bytes : List ℕ → Type 0
-Bytes s = (i : ℕ) → getD s i 0 < 256
+use Rattle.patterns.specs.Told.{WholePattern, MapRefused}
+use Rattle.listing.specs.Lines.{total, sizeLine, netLines}
+use Rattle.listing.specs.Listing.{textOf}
 
 -- a pattern: a job of a size that is served, and a map of that size that carries it
 abbrev pub Pattern : Job → List ℕ → Type 0
 Pattern j map = Served (j .size) × IsMap (frame (j .size) .relays) map × MapCarries (frame (j .size)) (countList (j .counts)) map
 
--- the codes that there are: 0 to 14, and 18 to 20
-abbrev pub inTable : ℕ → Bool
-inTable code = leb code 14 || leb 18 code && leb code 20
-
 -- Demand 1. A refusal gives its number from the table, and the lent room stays as it came. There is no default pattern.
 pub record Demand1 : Type 0 where
-  pub table : (a : Answer) → inTable (codeOf a) ≡ true
+  -- a program in C sees the code: it is 0 exactly if the answer is done
+  pub code-0 : (a : Answer) → codeOf a ≡ 0 → a ≡ Done
+  pub done-0 : (codeOf Done ≡ 0) × (numberOf Done ≡ 0)
+  -- the codes that each call can give
+  pub route-codes : (W : ℕ) (n : Counts) (room : List ℕ) → CodeIn (0 ∷ 1 ∷ 2 ∷ 3 ∷ 4 ∷ 5 ∷ 6 ∷ []) (routeAnswer W n room)
+  pub check-codes : (W : ℕ) (n m : List ℕ) → CodeIn (0 ∷ 1 ∷ 2 ∷ 11 ∷ 12 ∷ 13 ∷ []) (checkMap W n m)
+  pub read-job-codes : (s : List ℕ) → CodeIn (0 ∷ 1 ∷ 7 ∷ 8 ∷ 9 ∷ 10 ∷ []) (readJob s .answer)
+  pub read-pattern-codes : (s : List ℕ) → CodeIn (0 ∷ 1 ∷ 7 ∷ 8 ∷ 9 ∷ 10 ∷ 11 ∷ 12 ∷ 13 ∷ []) (readPattern s .answer)
+  pub write-job-codes : (j : Job) (room : List ℕ) → CodeIn (0 ∷ 1 ∷ 2 ∷ []) (jobAnswer j room)
+  pub write-pattern-codes : (j : Job) (map room : List ℕ) → CodeIn (0 ∷ 1 ∷ 2 ∷ 11 ∷ 12 ∷ 13 ∷ []) (patternAnswer j map room)
+  -- and the number is the table's: the size, the length needed, the first overfull side's own sum ..
+  pub route-told : (W : ℕ) (n : Counts) (room : List ℕ) → RoomTold W (mapBytes W) room (routeAnswer W n room)
+  pub overfull-told : (W : ℕ) (n : Counts) (room : List ℕ) (side : Side) (sum : ℕ) → routeAnswer W n room ≡ Overfull side sum
+      → SideTold W (countList n) side sum
+  pub write-job-told : (j : Job) (room : List ℕ) → RoomTold (j .size) (length (jobRecord j)) room (jobAnswer j room)
+  -- .. the relay and the type that the map check names; the pattern writer makes the map check first, and then asks for its record's length
+  pub check-told : (W : ℕ) (n m : List ℕ) → MapTold W n m (checkMap W n m)
+  pub write-pattern-first : (j : Job) (map room : List ℕ) → (checkJob j map ≡ Done → ⊥) → patternAnswer j map room ≡ checkJob j map
+  pub write-pattern-told : (j : Job) (map room : List ℕ) → checkJob j map ≡ Done
+      → RoomTold (j .size) (length (patternRecord j map)) room (patternAnswer j map room)
+  -- .. the offset of a field, before which whole fields stand, or of the first byte after a whole record; and with 11, 12 and 13 the bytes are
+  -- a whole pattern record, and the answer is the map check's
+  pub read-job-told : (s : List ℕ) → Bytes s → ReadTold s WholeJob (readJob s .answer)
+  pub read-pattern-told : (s : List ℕ) → Bytes s → ReadTold s WholePattern (readPattern s .answer)
+  pub read-pattern-map : (s : List ℕ) → Bytes s → 11 ≤ codeOf (readPattern s .answer) → MapRefused s (readPattern s .answer)
+  -- a refusal leaves lent room as it came, and gives no job and no map
   pub router-refuses : (W : ℕ) (n : Counts) (room : List ℕ) → (routeAnswer W n room ≡ Done → ⊥) → routeRoom W n room ≡ room
   pub job-writer-refuses : (j : Job) (room : List ℕ) → (jobAnswer j room ≡ Done → ⊥) → jobRoom j room ≡ room
   pub pattern-writer-refuses : (j : Job) (map room : List ℕ) → (patternAnswer j map room ≡ Done → ⊥) → patternRoom j map room ≡ room
   pub job-reader-refuses : (s : List ℕ) → (readJob s .answer ≡ Done → ⊥) → readJob s .job ≡ emptyJob
-  pub pattern-reader-refuses : (s : List ℕ) → (readPattern s .answer ≡ Done → ⊥) → (readPattern s .job ≡ emptyJob) × (mapPart s (readPattern s) ≡ [])
-  -- the sum that comes back is that side's own, and it is above the size
-  pub overfull-told : (W : ℕ) (n : Counts) (room : List ℕ) (side : Side) (sum : ℕ) → routeAnswer W n room ≡ Overfull side sum
-      → (sum ≡ sideSum four (countList n) (sideNumber side)) × (W < sum)
+  pub pattern-reader-refuses : (s : List ℕ) → (readPattern s .answer ≡ Done → ⊥)
+      → (readPattern s .job ≡ emptyJob) × (mapPart s (readPattern s) ≡ [])
   -- what the router closes carries the job
-  pub no-default : (W : ℕ) (n : Counts) (room : List ℕ) → routeAnswer W n room ≡ Done → MapCarries (frame W) (countList n) (take (mapBytes W) (routeRoom W n room))
+  pub no-default : (W : ℕ) (n : Counts) (room : List ℕ) → routeAnswer W n room ≡ Done
+      → MapCarries (frame W) (countList n) (take (mapBytes W) (routeRoom W n room))
 
 -- Demand 2. For each job that can be carried the relays are the ones fixed by the written choice rule, and the records keep what
 -- they are given.
 pub record Demand2 : Type 0 where
-  pub chosen : (W : ℕ) (n : Counts) (room : List ℕ) (closed : ℕ → Bool) → Served W → mapBytes W ≤ length room → Carries (frame W) (countList n) closed
+  -- the six types join each pair of sides once
+  pub pairs : (s t : ℕ) → 1 ≤ s → s < t → t ≤ 4 → count 6 (λ i. eqb (earlier four (i + 1)) s && eqb (later four (i + 1)) t) ≡ 1
+  pub chosen : (W : ℕ) (n : Counts) (room : List ℕ) (closed : ℕ → Bool) → Served W → mapBytes W ≤ length room
+      → Carries (frame W) (countList n) closed
       → (routeAnswer W n room ≡ Done) × (routeRoom W n room ≡ mapFor W n ++ drop (mapBytes W) room)
+  -- the closed relays of that map are exactly those of the rule
+  pub rule-closed : (W : ℕ) (n : Counts) (room : List ℕ) (k : ℕ) → routeAnswer W n room ≡ Done
+      → closedIn (take (mapBytes W) (routeRoom W n room)) k ≡ among k (relaysFor W n)
   -- each pattern that carries its job is written where the room is long enough; so is each job of a size from 1 to 64
-  pub pattern-written : (j : Job) (map room : List ℕ) → Pattern j map → 22 + mapBytes (j .size) ≤ length room → patternAnswer j map room ≡ Done
-  pub job-written : (j : Job) (room : List ℕ) → Served (j .size) → 19 ≤ length room → jobAnswer j room ≡ Done
+  pub pattern-written : (j : Job) (map room : List ℕ) → Pattern j map → length (patternRecord j map) ≤ length room
+      → patternAnswer j map room ≡ Done
+  pub job-written : (j : Job) (room : List ℕ) → Served (j .size) → length (jobRecord j) ≤ length room → jobAnswer j room ≡ Done
   -- what the router gives passes the map check for its job, and is written as a pattern
   pub routed-passes : (W : ℕ) (n : Counts) (room : List ℕ) → routeAnswer W n room ≡ Done → checkMap W (countList n) (mapFor W n) ≡ Done
-  pub routed-written : (j : Job) (room record-room : List ℕ) → routeAnswer (j .size) (j .counts) room ≡ Done → 22 + mapBytes (j .size) ≤ length record-room
+  pub routed-written : (j : Job) (room record-room : List ℕ) → routeAnswer (j .size) (j .counts) room ≡ Done
+      → length (patternRecord j (mapFor (j .size) (j .counts))) ≤ length record-room
       → patternAnswer j (mapFor (j .size) (j .counts)) record-room ≡ Done
   -- the record reads back to the same size, counts and relays
   pub pattern-back : (j : Job) (map room : List ℕ) → patternAnswer j map room ≡ Done
-      → let s = take (22 + mapBytes (j .size)) (patternRoom j map room) in (readPattern s .answer ≡ Done) × (readPattern s .job ≡ j) × (mapPart s (readPattern s) ≡ map)
+      → let s = take (length (patternRecord j map)) (patternRoom j map room) in
+      (readPattern s .answer ≡ Done) × (readPattern s .job ≡ j) × (mapPart s (readPattern s) ≡ map)
   pub job-back : (j : Job) (room : List ℕ) → jobAnswer j room ≡ Done
-      → let s = take 19 (jobRoom j room) in (readJob s .answer ≡ Done) × (readJob s .job ≡ j)
+      → let s = take (length (jobRecord j)) (jobRoom j room) in (readJob s .answer ≡ Done) × (readJob s .job ≡ j)
   -- every record that the reader accepts is written again as the same bytes
   pub pattern-again : (s : List ℕ) → Bytes s → readPattern s .answer ≡ Done → (room : List ℕ) → length s ≤ length room
-      → (patternAnswer (readPattern s .job) (mapPart s (readPattern s)) room ≡ Done) × (patternRoom (readPattern s .job) (mapPart s (readPattern s)) room ≡ over s room)
+      → let job = readPattern s .job in
+      let map = mapPart s (readPattern s) in
+      (patternAnswer job map room ≡ Done) × (patternRoom job map room ≡ over s room)
   pub job-again : (s : List ℕ) → Bytes s → readJob s .answer ≡ Done → (room : List ℕ) → length s ≤ length room
       → (jobAnswer (readJob s .job) room ≡ Done) × (jobRoom (readJob s .job) room ≡ over s room)
-  -- and what it accepts as a pattern is one
+  -- and what it accepts as a pattern is one; its map is the part of the record that a program in C is told by place and length
   pub pattern-read : (s : List ℕ) → Bytes s → readPattern s .answer ≡ Done → Pattern (readPattern s .job) (mapPart s (readPattern s))
+  pub pattern-part : (s : List ℕ) → readPattern s .answer ≡ Done
+      → let read = readPattern s in (read .start + read .len ≤ length s) × (mapPart s read ≡ part s (read .start) (read .len))
+  -- the lister's first line has the size and the number of the job's nets, and then a line comes for each closed relay of that map
+  pub listed : (s : List ℕ) → readJob s .answer ≡ Done → let job = readJob s .job in
+      routeAnswer (job .size) (job .counts) (replicate 48 0) ≡ Done
+      → let W = job .size in textOf s ≡ sizeLine W (total (job .counts)) ++ netLines W (mapFor W (job .counts)) (frame W .relays)
 
 -- Demand 3. For each size from 1 to 64, all counts and a room long enough for the map, three verdicts agree.
 abbrev pub RouterDone : ℕ → Counts → List ℕ → Type 0
@@ -88,7 +128,7 @@ RouterDone W n room = routeAnswer W n room ≡ Done
 
 -- no bank is asked for more nets than the size
 abbrev pub NoneOver : ℕ → Counts → Type 0
-NoneOver W n = (s : ℕ) → 1 ≤ s → s ≤ 4 → sideSum four (countList n) s ≤ W
+NoneOver W n = Within four W (countList n)
 
 -- some set of relays carries exactly those counts and touches no terminal twice: over the relays alone
 abbrev pub SomeCarry : ℕ → Counts → Type 0

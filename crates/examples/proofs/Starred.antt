@@ -7,22 +7,23 @@ use native.Mathlib.Omega.{arith}
 use lib.Dec.{eqb}
 use lib.ListN.{length, getD}
 use borrow.Author.Tests.{eqb-true}
-use Rattle.wiring.specs.Count.{firstFrom, anyBelow, count, sumTo}
-use Rattle.wiring.specs.Lists.{among, distinct}
+use Rattle.counting.specs.Count.{firstFrom, anyBelow, count, sumTo}
+use Rattle.counting.specs.Lists.{among, distinct}
 use Rattle.wiring.specs.Frame.{typeIn, placeIn}
-use Rattle.wiring.specs.Map.{closedIn, withClosed, closeAll}
-use Rattle.wiring.specs.Check.{spareSet, shares, clashes, clashAt, wrongType}
-use Rattle.wiring.proofs.Bools.{and-parts, clear}
+use Rattle.wiring.specs.Terminals.{touched}
+use Rattle.wiring.specs.Map.{closedIn, withClosed, closeAll, mapOf}
+use Rattle.wiring.specs.Check.{firstOver, spareSet, shares, clashes, clashAt, wrongType}
+use Rattle.counting.proofs.Bools.{and-parts, clear}
 use Rattle.answers.specs.Table.{codeOf, numberOf}
-use Rattle.frame.specs.Tests.{sizeTest, firstOver}
+use Rattle.frame.specs.Tests.{sizeTest, overfullTest, sumsTest}
 use Rattle.loads.specs.Table.{table, row}
 use Rattle.loads.specs.Load.{within, atMost, fits, pick, load}
-use Rattle.loads.specs.Seat.{netList, seats, touched, seatFits, seatOf, seating}
+use Rattle.loads.specs.Seat.{netList, seats, seatFits, seatOf, seating}
 use Rattle.cells.specs.Cells.{size, capacity, run, cells}
 use Rattle.cells.specs.Serve.{spread, centre, takes, seatedIn, serve}
 use Rattle.router.specs.Route.{relaysFor, mapFor}
 use Rattle.router.specs.Router.{routeAnswer, routeRoom}
-use Rattle.map_check.specs.Check.{formTest, sharedTest, countsTest, closedTest, checkMap}
+use Rattle.map_check.specs.Check.{formTest, sharedTest, mapTest, countsTest, closedTest, checkMap}
 use Rattle.examples.specs.Starred.{Example, Holds, answerOf, lentOf, starred}
 
 -- the same bytes
@@ -75,7 +76,7 @@ all-hold (e ∷ es) t (suc i) h other = all-hold es (and-parts (holds e) (allHol
 
 -- the computed test
 passes : allHold starred ≡ true
-unfolding allHold holds same starred routeRoom routeAnswer mapFor relaysFor serve seatedIn takes cells run capacity size centre spread seating seatOf seatFits touched seats netList load pick fits atMost within row table firstOver sizeTest checkMap closedTest countsTest sharedTest formTest wrongType clashAt clashes shares spareSet closeAll withClosed closedIn placeIn typeIn distinct among anyBelow firstFrom sumTo count
+unfolding allHold holds same starred routeRoom routeAnswer mapFor mapOf relaysFor serve seatedIn takes cells run capacity size centre spread seating seatOf seatFits touched seats netList load pick fits atMost within row table overfullTest sumsTest firstOver sizeTest checkMap closedTest countsTest mapTest sharedTest formTest wrongType clashAt clashes shares spareSet closeAll withClosed closedIn placeIn typeIn distinct among anyBelow firstFrom sumTo count
 passes = refl
 
 -- The single statement: each example of the list, counted from 0, holds. `other` stands for what would be past the end.

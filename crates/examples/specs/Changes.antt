@@ -5,10 +5,10 @@ use mathlib.Core.Path.{_≡_}
 use mathlib.Core.List.{List, [], _∷_}
 use Rattle.answers.specs.declared.Answer.{Answer}
 use Rattle.answers.specs.declared.Answer.the-variants.{Done, Kind, NoneFree, NotClosed}
-use Rattle.wiring.specs.Calls.{add, drop}
+use Rattle.wiring.specs.Calls.{adding, dropping}
 use Rattle.changes.specs.declared.Added.{Added}
 use Rattle.changes.specs.declared.Added.the-variants.{Closed, Refused}
-use Rattle.changes.specs.Calls.{callAnswer, callMap, addNet}
+use Rattle.changes.specs.Technician.{callAnswer, callMap, addNet}
 
 -- a call, what it gives, and the map then
 pub data Step : Type 0 where
@@ -18,8 +18,8 @@ pub data Step : Type 0 where
 -- from the map m each step gives just that, and the next one goes on from there
 unfoldable pub Follow : ℕ → List ℕ → List Step → Type 0
 Follow W m [] = Unit {0}
-Follow W m (adds c gives then ∷ steps) = (addNet W m c ≡ gives) × (callMap W m (add c) ≡ then) × Follow W then steps
-Follow W m (drops k gives then ∷ steps) = (callAnswer W m (drop k) ≡ gives) × (callMap W m (drop k) ≡ then) × Follow W then steps
+Follow W m (adds c gives then ∷ steps) = (addNet W m c ≡ gives) × (callMap W m (adding c) ≡ then) × Follow W then steps
+Follow W m (drops k gives then ∷ steps) = (callAnswer W m (dropping k) ≡ gives) × (callMap W m (dropping k) ≡ then) × Follow W then steps
 
 -- the bench's own: relays 0 and 2 are closed, and stay so
 unfoldable pub bothClosed : List Step

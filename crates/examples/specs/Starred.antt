@@ -11,24 +11,24 @@ use Rattle.frame.specs.Leaves.{counts, countList}
 use Rattle.router.specs.Router.{routeAnswer, routeRoom}
 use Rattle.map_check.specs.Check.{checkMap}
 
--- a call, with what it is lent: the router a room, the map check a map
-pub data Call : Type 0 where
-  router : List ℕ → Call
-  mapCheck : List ℕ → Call
+-- what is asked, with what it is lent: the router a room, the map check a map
+pub data Asked : Type 0 where
+  router : List ℕ → Asked
+  mapCheck : List ℕ → Asked
 
 -- what the call answers
-abbrev pub answerOf : Call → ℕ → Counts → Answer
+abbrev pub answerOf : Asked → ℕ → Counts → Answer
 answerOf (router room) W n = routeAnswer W n room
 answerOf (mapCheck m) W n = checkMap W (countList n) m
 
 -- what the lent bytes are afterwards: the map check writes nothing
-abbrev pub lentOf : Call → ℕ → Counts → List ℕ
+abbrev pub lentOf : Asked → ℕ → Counts → List ℕ
 lentOf (router room) W n = routeRoom W n room
 lentOf (mapCheck m) W n = m
 
 -- one example: the call, the size and the six counts; the code, the number and the lent bytes that it must give
 pub record Example : Type 0 where
-  pub call : Call
+  pub call : Asked
   pub size : ℕ
   pub job : Counts
   pub code : ℕ

@@ -1,3 +1,1 @@
 pub mod Fields
-pub mod Lent
-pub mod Puts

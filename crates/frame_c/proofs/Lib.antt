@@ -1,2 +1,3 @@
-pub mod Numbers
+pub mod NumbersFit
+pub mod ToldAs
 pub mod Relay

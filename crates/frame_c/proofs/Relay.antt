@@ -6,12 +6,12 @@ use mathlib.Core.List.{List}
 use native.Mathlib.Omega.{arith}
 use Rattle.answers.specs.declared.Answer.{Answer}
 use Rattle.answers.specs.declared.Answer.the-variants.{Done, NotClosed}
-use Rattle.wiring.specs.Calls.{drop}
+use Rattle.wiring.specs.Calls.{dropping}
 use Rattle.changes.specs.declared.Added.the-variants.{Refused}
 use Rattle.changes.specs.Start.{startTest}
-use Rattle.changes.specs.Calls.{callAnswer}
+use Rattle.changes.specs.Technician.{callAnswer}
 use Rattle.changes.proofs.Answers.{start-served, drop-not-there}
 use Rattle.frame_c.specs.Relay.{relayTold}
 
-pub never-dropped : (W : ℕ) (m : List ℕ) (a : Answer) → startTest W m ≡ Done → callAnswer W m (drop (relayTold (Refused a))) ≡ NotClosed (relayTold (Refused a))
+pub never-dropped : (W : ℕ) (m : List ℕ) (a : Answer) → startTest W m ≡ Done → callAnswer W m (dropping (relayTold (Refused a))) ≡ NotClosed (relayTold (Refused a))
 never-dropped W m a s = drop-not-there W m s 65535 (λ h c. omega (arith, start-served W m s .1))

@@ -1,3 +1,4 @@
+pub mod Ways
+pub mod Grounds
 pub mod Heads
 pub mod RoundTrip
-pub mod Ways

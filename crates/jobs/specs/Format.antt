@@ -1,6 +1,9 @@
 -- What bytes a job record is (scope, "Records"): the size's field and the counts' field. Assumes nothing.
 use Prim.Native.Nat.{ℕ}
+use mathlib.Core.Path.{_≡_}
+use mathlib.Core.Logic.{_⊎_}
 use mathlib.Core.List.{List, [], _∷_, _++_}
+use lib.ListN.{take}
 use Rattle.frame.specs.declared.Counts.{Counts}
 use Rattle.frame.specs.Leaves.{countList}
 use Rattle.fields.specs.Format.{wordsOf, field}
@@ -20,3 +23,7 @@ headBytes j = sizeField (j .size) ++ countsField (j .counts)
 
 abbrev pub jobRecord : Job → List ℕ
 jobRecord j = headBytes j
+
+-- `at` is a place where a field must start: before it stands nothing, the size's field, or all that both records begin with
+abbrev pub HeadFields : List ℕ → ℕ → Type 0
+HeadFields s at = (at ≡ 0) ⊎ ((size : ℕ) × (take at s ≡ sizeField size)) ⊎ ((j : Job) × (take at s ≡ headBytes j))

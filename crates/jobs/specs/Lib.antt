@@ -1,3 +1,4 @@
 pub mod Format
 pub mod Read
 pub mod Write
+pub mod Told

@@ -122,7 +122,7 @@ pub fn head_length(job: Job) -> usize
 }
 
 fn put_size(room: &mut [u8], at: usize, size: u8)
-    requires { ⌜ at + 4 ≤ length (now room) ⌝ }
+    requires { ⌜ at + length (sizeField size) ≤ length (now room) ⌝ }
     ensures { λ _. ⌜ now (room .exit) ≡ sets (now (room .entry)) at (sizeField size) ⌝ }
 {
     fields::put_tag(room, at, 1, 1);
@@ -130,7 +130,7 @@ fn put_size(room: &mut [u8], at: usize, size: u8)
 }
 
 fn put_counts(room: &mut [u8], at: usize, n: Counts)
-    requires { ⌜ at + 15 ≤ length (now room) ⌝ }
+    requires { ⌜ at + length (countsField n) ≤ length (now room) ⌝ }
     ensures { λ _. ⌜ now (room .exit) ≡ sets (now (room .entry)) at (countsField n) ⌝ }
 {
     fields::put_tag(room, at, 2, 12);

@@ -8,10 +8,10 @@ use lib.Dec.{eqb}
 use lib.ListN.{length, getD, replicate}
 use borrow.Author.Tests.{ne-eqb}
 use Rattle.answers.specs.Lent.{isDone}
-use Rattle.wiring.specs.Count.{one, count, sumTo}
+use Rattle.counting.specs.Count.{one, count, sumTo}
 use Rattle.wiring.specs.Frame.{frame}
 use Rattle.wiring.specs.Map.{closedIn}
-use Rattle.wiring.proofs.Counting.{count-ext}
+use Rattle.counting.proofs.Counting.{count-ext}
 use Rattle.wiring.proofs.Frame.{frame-proper}
 use Rattle.wiring.proofs.Pigeon.{carried-sum}
 use Rattle.frame.specs.declared.Counts.{Counts}
@@ -23,7 +23,7 @@ use Rattle.router.proofs.Maps.{map-carries}
 use Rattle.router.proofs.Answering.{routed}
 use Rattle.text.specs.Decimal.{decimal}
 use Rattle.text.proofs.Decimal.{decimal-digits}
-use Rattle.listing.specs.Lines.{lf, letter, terminalText, netLine, netLines, sizeLine, mapText}
+use Rattle.listing.specs.Lines.{lf, total, letter, terminalText, netLine, netLines, sizeLine, mapText}
 use Rattle.listing.specs.Listing.{jobText}
 
 -- how many of the bytes are LF
@@ -73,9 +73,6 @@ ends-nets W m (suc k) = rw ends-append (omega (arith, ends-nets W m k, line (clo
     line false = refl
 
 -- the nets that a job asks for
-abbrev pub total : Counts → ℕ
-total n = n .n1 + n .n2 + n .n3 + n .n4 + n .n5 + n .n6
-
 pub nets-routed : (W : ℕ) (n : Counts) (room : List ℕ) → isDone (routeAnswer W n room) ≡ true → count (frame W .relays) (closedIn (mapFor W n)) ≡ total n
 unfolding sumTo
 nets-routed W n room e =

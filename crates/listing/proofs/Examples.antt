@@ -1,16 +1,18 @@
 -- The scope's two listings, of the worked job record and of no input, byte for byte. Assumes nothing.
 use mathlib.Core.Path.{_≡_, refl}
 use mathlib.Core.List.{[], _∷_}
-use Rattle.wiring.specs.Count.{count, sumTo, firstFrom}
-use Rattle.wiring.specs.Lists.{among, distinct}
+use Rattle.counting.specs.Count.{count, sumTo, firstFrom}
+use Rattle.counting.specs.Lists.{among, distinct}
 use Rattle.wiring.specs.Frame.{typeIn, placeIn}
-use Rattle.wiring.specs.Map.{closedIn, withClosed, closeAll}
-use Rattle.frame.specs.Tests.{sizeTest, firstOver}
+use Rattle.wiring.specs.Map.{closedIn, withClosed, closeAll, mapOf}
+use Rattle.wiring.specs.Terminals.{touched}
+use Rattle.wiring.specs.Check.{firstOver}
+use Rattle.frame.specs.Tests.{sizeTest, overfullTest}
 use Rattle.fields.specs.Read.{fieldAt}
 use Rattle.jobs.specs.Read.{readHead, readJob}
 use Rattle.loads.specs.Table.{table, row}
 use Rattle.loads.specs.Load.{within, atMost, fits, pick, load}
-use Rattle.loads.specs.Seat.{netList, seats, touched, seatFits, seatOf, seating}
+use Rattle.loads.specs.Seat.{netList, seats, seatFits, seatOf, seating}
 use Rattle.cells.specs.Cells.{size, capacity, run, cells}
 use Rattle.cells.specs.Serve.{spread, centre, takes, seatedIn, serve}
 use Rattle.router.specs.Route.{relaysFor, mapFor}
@@ -25,7 +27,7 @@ pub worked-example : textOf (0x01 ∷ 0x00 ∷ 0x01 ∷ 0x02 ∷ 0x02 ∷ 0x00 �
     ∷ 49 ∷ 32 ∷ 76 ∷ 49 ∷ 32 ∷ 82 ∷ 50 ∷ 10
     ∷ 51 ∷ 32 ∷ 76 ∷ 50 ∷ 32 ∷ 84 ∷ 49 ∷ 10
     ∷ 52 ∷ 32 ∷ 84 ∷ 50 ∷ 32 ∷ 82 ∷ 49 ∷ 10 ∷ []
-unfolding textOf jobText mapText sizeLine netLines netLine terminalText refusedText decimal decimalIn readJob readHead fieldAt sizeTest firstOver routeAnswer mapFor relaysFor serve seatedIn takes cells run capacity size centre spread seating seatOf seatFits touched seats netList load pick fits atMost within row table closedIn withClosed closeAll typeIn placeIn among distinct count sumTo firstFrom
+unfolding textOf jobText mapText sizeLine netLines netLine terminalText refusedText decimal decimalIn readJob readHead fieldAt sizeTest overfullTest firstOver routeAnswer mapFor mapOf relaysFor serve seatedIn takes cells run capacity size centre spread seating seatOf seatFits touched seats netList load pick fits atMost within row table closedIn withClosed closeAll typeIn placeIn among distinct count sumTo firstFrom
 worked-example = refl
 
 -- REFUSED 7 0

@@ -8,11 +8,11 @@ use lib.ListN.{length, replicate, length-append}
 use Rattle.answers.specs.declared.Answer.{Answer}
 use Rattle.answers.specs.Table.{codeOf, numberOf}
 use Rattle.answers.specs.Lent.{isDone}
-use Rattle.wiring.specs.Count.{count}
+use Rattle.counting.specs.Count.{count}
 use Rattle.wiring.specs.Frame.{typeIn, frame}
 use Rattle.wiring.specs.Map.{closedIn}
-use Rattle.wiring.proofs.Counting.{count-le}
-use Rattle.wiring.proofs.Frame.{frame-proper}
+use Rattle.counting.proofs.Counting.{count-le}
+use Rattle.wiring.proofs.Frame.{is-there}
 use Rattle.jobs.specs.declared.Job.{Job}
 use Rattle.jobs.specs.Read.{readJob}
 use Rattle.router.specs.Route.{mapFor}
@@ -26,8 +26,7 @@ use Rattle.listing.proofs.Lines.{terminal-length, size-length, is-refus
 net-length : (W k : ℕ) → W ≤ 64 → k < 6 * W → length (netLine W k) ≤ 10
 unfolding netLine
 net-length W k w h =
-    let t = frame-proper W .typed k h in
-    let p = frame-proper W .placed k h in
+    let r = is-there W k h in
     simp (length-append, terminal-length)
     (omega (arith, decimal-length 1 (typeIn W k) (omega arith) (omega arith), decimal-length 2 (frame W .first k) (omega arith) (omega arith), decimal-length 2 (frame W .second k) (omega arith) (omega arith)))
 
@@ -55,7 +54,7 @@ job-text-length j = go (isDone (routeAnswer (j .size) (j .counts) (replicate 48 
   where
     go : (b : Bool) → isDone (routeAnswer (j .size) (j .counts) (replicate 48 0)) ≡ b
         → length (cond b (mapText (j .size) (mapFor (j .size) (j .counts))) (refusedText (routeAnswer (j .size) (j .counts) (replicate 48 0)))) ≤ mostText
-    go true e = map-text-length (j .size) _ (routed (j .size) (j .counts) (replicate 48 0) e .upto64)
+    go true e = map-text-length (j .size) _ (routed (j .size) (j .counts) (replicate 48 0) e .served .1)
     go false e = refused-text-length _
 
 -- the text for any bytes

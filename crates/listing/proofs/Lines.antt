@@ -9,12 +9,11 @@ use lib.ListN.{length, length-append, List·getD-eq-default}
 use borrow.Author.Tests.{lt-ltb}
 use Rattle.answers.specs.declared.Answer.{Answer}
 use Rattle.answers.specs.Table.{codeOf, numberOf}
-use Rattle.wiring.specs.Count.{count}
+use Rattle.counting.specs.Count.{count}
 use Rattle.wiring.specs.Wiring.{fromSide, toSide}
 use Rattle.wiring.specs.Frame.{typeIn, placeIn, frame}
 use Rattle.wiring.specs.Map.{closedIn}
-use Rattle.wiring.proofs.Numbers.{type-in}
-use Rattle.wiring.proofs.Frame.{four-row}
+use Rattle.wiring.proofs.Frame.{is-there}
 use Rattle.frame.specs.declared.Sorted.the-variants.{Relay, NoRelay}
 use Rattle.frame.specs.declared.Terminal.{Terminal}
 use Rattle.frame.specs.declared.Terminals.the-variants.{Joined, Nothing}
@@ -69,10 +68,7 @@ module _ (W k : ℕ) (h : k < 6 * W) where
 
   net-there : IsNet W k (typeIn W k) (record { side = fromSide (frame W) k; position = frame W .first k }) (record { side = toSide (frame W) k; position = frame W .second k })
   unfolding netLine
-  net-there =
-      let t = type-in W 6 k h in
-      let r = four-row (typeIn W k) (t .0) (t .1) in
-      record { line = refl; long = simp length-append (omega arith); from = r .from1; to = r .to1 }
+  net-there = let r = is-there W k h in record { line = refl; long = simp length-append (omega arith); from = r .sides .from1; to = r .sides .to1 }
 
   pub is-net : (c p : ℕ) (a b : Terminal) → sorted W k ≡ Relay c p → terminalsOf W k ≡ Joined a b → IsNet W k c a b
   is-net c p a b e f =
@@ -90,15 +86,7 @@ pub is-map-text : (W nets : ℕ) (m : List ℕ) → nets ≡ count (frame W .rel
 unfolding mapText
 is-map-text W nets m p = rw p (record { text = refl; long = simp length-append })
 
--- one relay more: it is closed, counted and has a line, or it is open
-pub count-closed : (k n r : ℕ) (test : ℕ → Bool) → test k ≡ true → n ≡ count k test → r ≡ n + 1 → r ≡ count (k + 1) test
-unfolding count
-count-closed k n r test t e x = rw (add-one k, t) (omega arith)
-
-pub count-open : (k n r : ℕ) (test : ℕ → Bool) → test k ≡ false → n ≡ count k test → r ≡ n → r ≡ count (k + 1) test
-unfolding count
-count-open k n r test t e x = rw (add-one k, t) (omega arith)
-
+-- one relay more: it is closed and has a line, or it is open
 pub nets-none : (W : ℕ) (m : List ℕ) {l : List ℕ} {i : ℕ} → Wrote l i (netLines W m 0) l i
 unfolding netLines
 nets-none W m = wrote-none

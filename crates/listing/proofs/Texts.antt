@@ -1,17 +1,17 @@
 -- Laws of the text by what was read and routed, and of the room that it is made in. Assumes nothing.
 use Prim.Native.Nat.{ℕ, _+_, _≤_, _<_}
-use mathlib.Core.Path.{_≡_, refl, sym, ap, _∙_}
+use mathlib.Core.Path.{_≡_, refl, ap, _∙_}
 use mathlib.Core.Bool.{Bool, true, false, cond}
 use mathlib.Core.List.{List, _++_}
 use native.Mathlib.Omega.{arith}
 use lib.Dec.{ltb}
 use lib.ListN.{length, take, drop, replicate, length-append}
 use lib.Seq.{sets-eq, take-at}
-use borrow.Author.Tests.{ltb-false, eq-eqb, ne-eqb, lt-ltb, le-ltb}
+use borrow.Author.Tests.{ltb-false, lt-ltb, le-ltb}
 use Rattle.answers.specs.declared.Answer.{Answer}
 use Rattle.answers.specs.declared.Answer.the-variants.{Done, Room}
-use Rattle.answers.specs.Table.{codeOf}
 use Rattle.answers.specs.Lent.{isDone}
+use Rattle.answers.proofs.Done.{is-done}
 use Rattle.frame.specs.Leaves.{mapBytes}
 use Rattle.jobs.specs.declared.Job.{Job}
 use Rattle.jobs.specs.declared.JobRead.{JobRead}
@@ -26,28 +26,21 @@ use Rattle.listing.specs.Lines.{mapText, refusedText}
 use Rattle.listing.specs.Listing.{jobText, textOf, mostText, listed, listedRoom}
 use Rattle.listing.proofs.Length.{text-length}
 
--- done or not, by the code
-done-by : (a : Answer) (code : ℕ) → code ≡ codeOf a → code ≡ 0 → isDone a ≡ true
-done-by a code q z = eq-eqb (codeOf a) 0 (sym q ∙ z)
-
-not-done-by : (a : Answer) (code : ℕ) → code ≡ codeOf a → (code ≡ 0 → ⊥) → isDone a ≡ false
-not-done-by a code q h = ne-eqb (codeOf a) 0 (λ z. h (q ∙ z))
-
 -- the first n bytes of the room that was lent are the job's map
 pub record Mapped (j : Job) (n : ℕ) (lent : List ℕ) : Type 0 where
   pub within : n ≤ length lent
   pub long : n ≡ length (take n lent)
   pub text : jobText j ≡ mapText (j .size) (take n lent)
 
-module _ (j : Job) (a : Answer) (code : ℕ) (p : a ≡ routeAnswer (j .size) (j .counts) (replicate 48 0)) (q : code ≡ codeOf a) where
-  pub job-refused : (code ≡ 0 → ⊥) → jobText j ≡ refusedText a
+module _ (j : Job) (a : Answer) (p : a ≡ routeAnswer (j .size) (j .counts) (replicate 48 0)) where
+  pub job-refused : isDone a ≡ false → jobText j ≡ refusedText a
   unfolding jobText
-  job-refused h = rw (← p, not-done-by a code q h)
+  job-refused h = rw (← p, h)
 
-  pub job-mapped : (n : ℕ) (lent : List ℕ) → code ≡ 0 → n ≡ mapBytes (j .size) → lent ≡ routeRoom (j .size) (j .counts) (replicate 48 0) → Mapped j n lent
+  pub job-mapped : (n : ℕ) (lent : List ℕ) → a ≡ Done → n ≡ mapBytes (j .size) → lent ≡ routeRoom (j .size) (j .counts) (replicate 48 0) → Mapped j n lent
   unfolding jobText
   job-mapped n lent z e l =
-      let d = done-by a code q z in
+      let d = is-done a z in
       let r = routed (j .size) (j .counts) (replicate 48 0) (rw p at d) in
       let m = map-length (j .size) (j .counts) in
       let rest : List ℕ = drop (mapBytes (j .size)) (replicate 48 0) in
@@ -58,14 +51,14 @@ module _ (j : Job) (a : Answer) (code : ℕ) (p : a ≡ routeAnswer (j .size) (j
         text = rw (← p, d, front);
       }
 
-module _ (s : List ℕ) (r : JobRead) (code : ℕ) (p : r ≡ readJob s) (q : code ≡ codeOf (r .answer)) where
-  pub text-refused : (code ≡ 0 → ⊥) → textOf s ≡ refusedText (r .answer)
+module _ (s : List ℕ) (r : JobRead) (p : r ≡ readJob s) where
+  pub text-refused : isDone (r .answer) ≡ false → textOf s ≡ refusedText (r .answer)
   unfolding textOf
-  text-refused h = rw (← p, not-done-by (r .answer) code q h)
+  text-refused h = rw (← p, h)
 
-  pub text-read : code ≡ 0 → textOf s ≡ jobText (r .job)
+  pub text-read : r .answer ≡ Done → textOf s ≡ jobText (r .job)
   unfolding textOf
-  text-read z = rw (← p, done-by (r .answer) code q z)
+  text-read z = rw (← p, is-done (r .answer) z)
 
 module _ (s room : List ℕ) where
   pub list-short : length room < mostText → (record { answer = Room 3857; len = 0 } ≡ listed s room) × (room ≡ listedRoom s room)

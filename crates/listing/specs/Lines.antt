@@ -1,14 +1,15 @@
 -- The lines of the bench lister (scope, "The bench lister"), in ASCII, each ended by one LF. Assumes nothing.
-use Prim.Native.Nat.{ℕ, zero, suc, _-_}
+use Prim.Native.Nat.{ℕ, zero, suc, _+_, _-_}
 use mathlib.Core.Bool.{cond}
 use mathlib.Core.List.{List, [], _∷_, _++_}
 use lib.ListN.{getD}
 use Rattle.answers.specs.declared.Answer.{Answer}
 use Rattle.answers.specs.Table.{codeOf, numberOf}
-use Rattle.wiring.specs.Count.{count}
+use Rattle.counting.specs.Count.{count}
 use Rattle.wiring.specs.Wiring.{fromSide, toSide}
 use Rattle.wiring.specs.Frame.{typeIn, frame}
 use Rattle.wiring.specs.Map.{closedIn}
+use Rattle.frame.specs.declared.Counts.{Counts}
 use Rattle.text.specs.Decimal.{decimal}
 
 abbrev pub space : ℕ
@@ -47,6 +48,10 @@ netLine W k =
 unfoldable pub netLines : ℕ → List ℕ → ℕ → List ℕ
 netLines W m zero = []
 netLines W m (suc k) = netLines W m k ++ cond (closedIn m k) (netLine W k) []
+
+-- the nets of all types
+abbrev pub total : Counts → ℕ
+total n = n .n1 + n .n2 + n .n3 + n .n4 + n .n5 + n .n6
 
 -- the size and the number of closed relays
 unfoldable pub sizeLine : ℕ → ℕ → List ℕ

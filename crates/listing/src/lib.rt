@@ -3,7 +3,7 @@ ghost use mathlib.Core.Path.{_≡_};
 ghost use mathlib.Core.List.{_∷_};
 ghost use Prim.Native.Nat.{_+_, _*_, _≤_, _<_};
 ghost use lib.ListN.{length};
-ghost use Rattle.wiring.specs.Count.{count};
+ghost use Rattle.counting.specs.Count.{count};
 ghost use Rattle.wiring.specs.Frame.{frame};
 ghost use Rattle.wiring.specs.Map.{closedIn};
 ghost use Rattle.text.specs.Wrote.{Wrote};
@@ -139,9 +139,9 @@ fn put_job(room: &mut [u8], job: Job) -> usize
 {
     let mut map = [0u8; 48];
     let answer = router::route(job.size, job.counts, &mut map);
-    if answers::code(answer) != 0 {
+    let Answer::Done = answer else {
         return put_refused(room, 0, answer);
-    }
+    };
     let n = frame::map_length(job.size);
     put_map(room, 0, job.size, &map[..n])
 }
@@ -153,9 +153,9 @@ fn put_text(room: &mut [u8], input: &[u8]) -> usize
 {
     let read = jobs::read_job(input);
     let answer = read.answer;
-    if answers::code(answer) != 0 {
+    let Answer::Done = answer else {
         return put_refused(room, 0, answer);
-    }
+    };
     put_job(room, read.job)
 }
 

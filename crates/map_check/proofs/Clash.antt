@@ -1,14 +1,14 @@
 -- The search for a shared terminal by marks: where it stops, and where it runs to its end. Over any wiring whose terminals have their bits.
 -- Assumes nothing.
-use Prim.Native.Nat.{ℕ, suc, _<_}
+use Prim.Native.Nat.{ℕ, _+_, _<_}
 use mathlib.Core.Path.{_≡_, sym, ap, _∙_}
 use mathlib.Core.Bool.{Bool, true, false}
 use mathlib.Core.List.{List}
 use native.Mathlib.Omega.{arith}
-use native.Mathlib.Decide.{ℕ-discrete}
+use borrow.Author.Count.{below-more}
 use Rattle.wiring.specs.Wiring.{Wiring}
 use Rattle.wiring.specs.Check.{clashes, clashAt}
-use Rattle.wiring.proofs.Search.{first-is, none-first}
+use Rattle.counting.proofs.Search.{first-is, none-first}
 use Rattle.marks.specs.Marks.{relayMarked, marksOf}
 use Rattle.marks.proofs.Marks.{Worded, marks-clash}
 
@@ -26,16 +26,9 @@ module _ (w : Wiring) (x : Worded w) (closed : ℕ → Bool) (k : ℕ) (marks : 
   clash-nowhere h = sym (none-first (clashes w closed) (w .relays) 0 (λ j p q. none j (omega arith)) ∙ omega arith)
 
   -- one relay more that does not clash
-  next : clashes w closed k ≡ false → (j : ℕ) → j < suc k → clashes w closed j ≡ false
-  next e j h = go (ℕ-discrete j k)
-    where
-      go : Dec (j ≡ k) → clashes w closed j ≡ false
-      go (yes z) = rw z e
-      go (no z) = none j (omega arith)
-
-  pub none-open : closed k ≡ false → (j : ℕ) → j < suc k → clashes w closed j ≡ false
+  pub none-open : closed k ≡ false → (j : ℕ) → j < k + 1 → clashes w closed j ≡ false
   unfolding clashes
-  none-open e = next (rw e)
+  none-open e = below-more _ _ none (rw e)
 
-  pub none-unmarked : k < w .relays → closed k ≡ true → relayMarked w marks k ≡ false → (j : ℕ) → j < suc k → clashes w closed j ≡ false
-  none-unmarked h e t = next (told h e ∙ t)
+  pub none-unmarked : k < w .relays → closed k ≡ true → relayMarked w marks k ≡ false → (j : ℕ) → j < k + 1 → clashes w closed j ≡ false
+  none-unmarked h e t = below-more _ _ none (told h e ∙ t)

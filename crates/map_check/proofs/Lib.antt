@@ -1,3 +1,6 @@
 pub mod Clash
-pub mod Tests
-pub mod Laws
+pub mod Ways
+pub mod Meaning
+pub mod Grounds
+pub mod Checked
+pub mod Told

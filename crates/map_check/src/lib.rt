@@ -6,10 +6,9 @@ ghost use Rattle.wiring.specs.Frame.{frame};
 ghost use Rattle.wiring.specs.Map.{closedIn};
 ghost use Rattle.wiring.specs.Check.{clashAt};
 ghost use Rattle.frame.specs.Leaves.{countList};
-ghost use Rattle.map_check.specs.Check.{formTest, countsTest, sumsTest, closedTest, checkMap};
+ghost use Rattle.map_check.specs.Check.{formTest, mapTest, countsTest, closedTest, checkMap};
 use answers::Answer;
 use frame::Counts;
-use frame::Over;
 
 // Codes 2 and 11: the map's length and its spare bits.
 pub fn test_form(size: u16, map: &[u8]) -> Answer
@@ -50,23 +49,31 @@ fn first_clash(size: usize, map: &[u8]) -> usize
     k
 }
 
-// Codes 1, 2, 11 and 12: may the map be closed, whatever its job?
-pub fn test_closed(size: u16, map: &[u8]) -> Answer
-    ensures { λ r. ⌜ r ≡ closedTest size (now (map .entry)) ⌝ }
+// Codes 2, 11 and 12: the map alone. It asks that the size is served: a mark has a word of 64 bits.
+pub fn test_map(size: u16, map: &[u8]) -> Answer
+    requires { ⌜ size ≤ 64 ⌝ }
+    ensures { λ r. ⌜ r ≡ mapTest size (now (map .entry)) ⌝ }
 {
-    let served = frame::test_size(size);
-    if answers::code(served) != 0 {
-        return served;
-    }
     let formed = test_form(size, map);
-    if answers::code(formed) != 0 {
+    let Answer::Done = formed else {
         return formed;
-    }
+    };
     let k = first_clash(size as usize, map);
     if k < 6 * (size as usize) {
         return Answer::Shared(k as u16);
     }
     Answer::Done
+}
+
+// Codes 1, 2, 11 and 12: may the map be closed, whatever its job?
+pub fn test_closed(size: u16, map: &[u8]) -> Answer
+    ensures { λ r. ⌜ r ≡ closedTest size (now (map .entry)) ⌝ }
+{
+    let served = frame::test_size(size);
+    let Answer::Done = served else {
+        return served;
+    };
+    test_map(size, map)
 }
 
 // The number of closed relays of a type: its numbers stand together.
@@ -100,27 +107,17 @@ pub fn test_counts(size: u16, counts: Counts, map: &[u8]) -> Answer
     Answer::Done
 }
 
-// Code 14: the side sums against the size.
-pub fn test_sums(size: u16, counts: Counts) -> Answer
-    ensures { λ r. ⌜ r ≡ sumsTest size (countList counts) ⌝ }
-{
-    match frame::first_over(size, counts) {
-        Over::Above(side, _) => Answer::SumAbove(side),
-        Over::Nowhere => Answer::Done,
-    }
-}
-
 // Does the map carry the job?
 pub fn check_map(size: u16, counts: Counts, map: &[u8]) -> Answer
     ensures { λ r. ⌜ r ≡ checkMap size (countList counts) (now (map .entry)) ⌝ }
 {
     let closed = test_closed(size, map);
-    if answers::code(closed) != 0 {
+    let Answer::Done = closed else {
         return closed;
-    }
+    };
     let counted = test_counts(size, counts, map);
-    if answers::code(counted) != 0 {
+    let Answer::Done = counted else {
         return counted;
-    }
-    test_sums(size, counts)
+    };
+    frame::test_sums(size, counts)
 }

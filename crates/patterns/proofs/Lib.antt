@@ -1,3 +1,2 @@
-pub mod Checked
-pub mod RoundTrip
 pub mod Ways
+pub mod RoundTrip

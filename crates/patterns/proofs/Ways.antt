@@ -10,19 +10,20 @@ use borrow.Author.Tests.{lt-ltb, le-ltb, le-leb, lt-leb}
 use Rattle.answers.specs.declared.Answer.{Answer}
 use Rattle.answers.specs.declared.Answer.the-variants.{Done, After}
 use Rattle.answers.specs.Lent.{isDone}
-use Rattle.frame.specs.Leaves.{countList, mapBytes}
-use Rattle.map_check.specs.Check.{checkMap}
+use Rattle.frame.specs.Leaves.{mapBytes}
+use Rattle.fields.specs.declared.Field.{Field}
 use Rattle.fields.specs.declared.Field.the-variants.{There, Faulty}
 use Rattle.fields.specs.Format.{wordBytes}
-use Rattle.fields.specs.Read.{fieldAt}
-use Rattle.fields.proofs.Puts.{onto}
+use Rattle.fields.specs.Read.{fieldAt, fieldAnswer}
+use Rattle.puts.proofs.Puts.{onto}
 use Rattle.jobs.specs.declared.Job.{Job}
+use Rattle.jobs.specs.declared.Head.{Head}
 use Rattle.jobs.specs.declared.Head.the-variants.{Begun, Refused}
 use Rattle.jobs.specs.Format.{headBytes}
-use Rattle.jobs.specs.Read.{readHead}
+use Rattle.jobs.specs.Read.{readHead, headAnswer}
 use Rattle.patterns.specs.declared.PatternRead.{PatternRead}
 use Rattle.patterns.specs.Format.{patternRecord}
-use Rattle.patterns.specs.Read.{part, noPattern, mapAt, readPattern}
+use Rattle.patterns.specs.Read.{part, noPattern, checkJob, mapAt, readPattern}
 use Rattle.patterns.specs.Part.{mapPart}
 
 -- a map of m bytes at its place
@@ -31,7 +32,7 @@ module _ (s : List ℕ) (j : Job) (start : ℕ) {m : ℕ} (is : m ≡ mapBytes (
   unfolding mapAt
   bytes-after h = rw (← is) (simp (lt-ltb _ _ h))
 
-  module _ {a : Answer} (ends : length s ≤ start + m) (check : a ≡ checkMap (j .size) (countList (j .counts)) (part s start (start + m - start))) where
+  module _ {a : Answer} (ends : length s ≤ start + m) (check : a ≡ checkJob j (part s start (start + m - start))) where
     pub map-refused : isDone a ≡ false → noPattern a ≡ mapAt s j start
     unfolding mapAt
     map-refused d = rw (← is) (simp (le-ltb _ _ ends) (rw (← rw (add-sub-cancel-left start m) at check) (simp d)))
@@ -41,19 +42,19 @@ module _ (s : List ℕ) (j : Job) (start : ℕ) {m : ℕ} (is : m ≡ mapBytes (
     map-passes d = rw (← is) (simp (le-ltb _ _ ends) (rw (← rw (add-sub-cancel-left start m) at check, d)))
 
 -- the head and the map's field
-module _ (s : List ℕ) where
-  pub no-head : {a : Answer} → readHead s ≡ Refused a → noPattern a ≡ readPattern s
+module _ (s : List ℕ) {head : Head} (head-is : head ≡ readHead s) where
+  pub no-head : {a b : Answer} → head ≡ Refused a → b ≡ headAnswer head → noPattern b ≡ readPattern s
   unfolding readPattern
-  no-head e = rw e
+  no-head e f = rw (f, ← head-is, e)
 
-  module _ {j : Job} {next m : ℕ} (begun : readHead s ≡ Begun j next) (is : m ≡ mapBytes (j .size)) where
-    pub no-map : {a : Answer} → fieldAt s next 3 m ≡ Faulty a → noPattern a ≡ readPattern s
+  module _ {j : Job} {next m : ℕ} {third : Field} (begins : head ≡ Begun j next) (is : m ≡ mapBytes (j .size)) (third-is : third ≡ fieldAt s next 3 m) where
+    pub no-map : {a b : Answer} → third ≡ Faulty a → b ≡ fieldAnswer third → noPattern b ≡ readPattern s
     unfolding readPattern
-    no-map e = rw (begun, ← is, e)
+    no-map e f = rw (f, ← head-is, begins, ← is, ← third-is, e)
 
-    pub map-there : {v : ℕ} → fieldAt s next 3 m ≡ There v → mapAt s j v ≡ readPattern s
+    pub map-there : {v : ℕ} → third ≡ There v → mapAt s j v ≡ readPattern s
     unfolding readPattern
-    map-there e = rw (begun, ← is, e)
+    map-there e = rw (← head-is, begins, ← is, ← third-is, e)
 
 -- the part that a read tells
 module _ (s : List ℕ) (r : PatternRead) where

@@ -22,12 +22,16 @@ part s start len = take len (drop start s)
 abbrev pub noPattern : Answer → PatternRead
 noPattern a = record { answer = a; job = emptyJob; start = 0; len = 0 }
 
+-- the map check of a job and its map
+abbrev pub checkJob : Job → List ℕ → Answer
+checkJob j map = checkMap (j .size) (countList (j .counts)) map
+
 -- a map at its place: nothing stands after it, and then comes the map check
 unfoldable pub mapAt : List ℕ → Job → ℕ → PatternRead
 mapAt s j start =
     let m : ℕ = mapBytes (j .size) in
     cond (ltb (start + m) (length s)) (noPattern (After (start + m)))
-    (whenDone (checkMap (j .size) (countList (j .counts)) (part s start m)) noPattern
+    (whenDone (checkJob j (part s start m)) noPattern
     (record { answer = Done; job = j; start = start; len = m }))
 
 -- a pattern record is the head and the map's field

@@ -4,14 +4,13 @@ use mathlib.Core.List.{List}
 use lib.ListN.{length}
 use Rattle.answers.specs.declared.Answer.{Answer}
 use Rattle.answers.specs.Lent.{andThen, roomFor, lentAfter}
-use Rattle.frame.specs.Leaves.{countList}
-use Rattle.map_check.specs.Check.{checkMap}
 use Rattle.jobs.specs.declared.Job.{Job}
 use Rattle.patterns.specs.Format.{patternRecord}
+use Rattle.patterns.specs.Read.{checkJob}
 
 -- the map check, then the room; nothing else is refused
 unfoldable pub patternAnswer : Job → List ℕ → List ℕ → Answer
-patternAnswer j map room = andThen (checkMap (j .size) (countList (j .counts)) map) (roomFor (length (patternRecord j map)) room)
+patternAnswer j map room = andThen (checkJob j map) (roomFor (length (patternRecord j map)) room)
 
 unfoldable pub patternRoom : Job → List ℕ → List ℕ → List ℕ
 patternRoom j map room = lentAfter (patternAnswer j map room) (patternRecord j map) room

@@ -105,6 +105,6 @@ pub fn write_pattern(room: &mut [u8], job: Job, map: &[u8]) -> Answer
     }
     jobs::put_head(room, job);
     fields::put_tag(room, at, 3, map.len());
-    fields::put_bytes(room, at + 3, map);
+    puts::put_bytes(room, at + 3, map);
     Answer::Done
 }

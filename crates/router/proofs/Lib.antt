@@ -1,5 +1,6 @@
-pub mod Carry
+pub mod AnyRule
 pub mod Maps
 pub mod Blocks
 pub mod Serving
 pub mod Answering
+pub mod Told

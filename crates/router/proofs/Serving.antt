@@ -7,7 +7,7 @@ use mathlib.Core.List.{List, [], _∷_, _++_, map, map-append}
 use native.Mathlib.Omega.{arith}
 use native.Mathlib.Numerals.{add-one}
 use native.Mathlib.Decide.{ℕ-discrete, decLe}
-use lib.ListN.{replicate, take}
+use lib.ListN.{replicate}
 use Rattle.wiring.specs.Frame.{relay}
 use Rattle.wiring.specs.Map.{closeAll}
 use Rattle.wiring.proofs.Closing.{closeAll-append}
@@ -15,21 +15,21 @@ use Rattle.frame.specs.declared.Counts.{Counts}
 use Rattle.loads.specs.Table.{row}
 use Rattle.loads.specs.Load.{atMost, less, fits, pick, load}
 use Rattle.loads.specs.Seat.{netList, seats, seating}
-use Rattle.loads.proofs.Counts.{Within, part-test}
-use Rattle.loads.proofs.Choice.{Served, served, later-none}
-use Rattle.router.specs.Route.{relaysFor}
+use Rattle.loads.specs.declared.Seated.{Seated}
+use Rattle.loads.specs.Seated.{netTypes, SeatedRow}
+use Rattle.loads.proofs.Counts.{SumsWithin, part-test}
+use Rattle.loads.proofs.Choice.{Loaded, loaded, later-none}
 use Rattle.cells.specs.Cells.{capacity, run, cells, without}
 use Rattle.cells.specs.Serve.{spread, centre, serve}
 use Rattle.cells.proofs.Serve.{size-centre, size-block, serve-centre, serve-block, holds-all}
 use Rattle.cells.proofs.Listed.{without-same, without-other, without-absent, without-holds, no-zero}
-use Rattle.router.specs.declared.Seated.{Seated}
-use Rattle.router.specs.Seated.{SeatedRow}
+use Rattle.router.specs.Route.{relaysFor}
 
 -- the cells from p on, but for one
 unfoldable pub from : ℕ → ℕ → ℕ → List ℕ
 from W skip p = without skip (run p (suc ((W + 1) / 2) - p))
 
-pub from-start : (W skip : ℕ) → from W skip 1 ≡ without skip (cells W)
+from-start : (W skip : ℕ) → from W skip 1 ≡ without skip (cells W)
 unfolding from cells
 from-start W skip = let z : suc ((W + 1) / 2) - 1 ≡ (W + 1) / 2 = omega arith in rw z
 
@@ -50,7 +50,7 @@ unfolding from
 from-next W skip p h e = rw (from-run W p h) (without-other skip p _ e)
 
 -- where something is left, there is a cell; where two are left and it is not the one left out, it is a block
-pub there : (W skip p : ℕ) → 1 ≤ capacity W (from W skip p) → p ≤ (W + 1) / 2
+there : (W skip p : ℕ) → 1 ≤ capacity W (from W skip p) → p ≤ (W + 1) / 2
 unfolding capacity
 there W skip p h = go (decLe p ((W + 1) / 2))
   where
@@ -66,12 +66,12 @@ no-centre W skip p h e odd =
     omega (arith, size-centre W p odd)
 
 -- one block, and what is then still to do
-pub record Block (W skip p : ℕ) : Type 0 where
-  pub below : p + p ≤ W
-  pub left : capacity W (from W skip p) ≡ capacity W (from W skip (p + 1)) + 2
-  pub serves : (n : Counts) → let k = capacity W (from W skip (p + 1)) in serve W (from W skip p) n ≡ map (spread W p) (seating (load n k)) ++ serve W (from W skip (p + 1)) (less n (load n k))
+record Block (W skip p : ℕ) : Type 0 where
+  below : p + p ≤ W
+  left : capacity W (from W skip p) ≡ capacity W (from W skip (p + 1)) + 2
+  serves : (n : Counts) → let l = load n (capacity W (from W skip (p + 1))) in serve W (from W skip p) n ≡ map (spread W p) (seating l) ++ serve W (from W skip (p + 1)) (less n l)
 
-pub block : (W skip p : ℕ) → 2 ≤ capacity W (from W skip p) → p ≢ skip → Block W skip p
+block : (W skip p : ℕ) → 2 ≤ capacity W (from W skip p) → p ≢ skip → Block W skip p
 unfolding capacity
 block W skip p h e =
     let l = there W skip p (omega arith) in
@@ -84,16 +84,15 @@ block W skip p h e =
     }
 
 -- the loop's end: the centre is left, or nothing
-last-run : (W skip m p : ℕ) (n : Counts) → p + m ≡ suc ((W + 1) / 2) → 1 ≤ p
-    → ((capacity W (without skip (run p m)) ≡ 0) → serve W (without skip (run p m)) n ≡ []) × ((capacity W (without skip (run p m)) ≡ 1) → serve W (without skip (run p m)) n ≡ centre W (W / 2 + 1) n)
+abbrev Last : ℕ → Counts → List ℕ → Type 0
+Last W n ps = (capacity W ps ≡ 0 → serve W ps n ≡ []) × (capacity W ps ≡ 1 → serve W ps n ≡ centre W (W / 2 + 1) n)
+
+last-run : (W skip m p : ℕ) (n : Counts) → p + m ≡ suc ((W + 1) / 2) → 1 ≤ p → Last W n (without skip (run p m))
 unfolding run without capacity serve
 last-run W skip zero p n e l = (λ h. refl, λ h. absurd (omega arith))
 last-run W skip (suc m) p n e l = go (ℕ-discrete p skip) (ℕ-discrete (p + p) (W + 1)) (last-run W skip m (suc p) n (omega arith) (omega arith))
   where
-    Last : List ℕ → Type 0
-    Last ps = ((capacity W ps ≡ 0) → serve W ps n ≡ []) × ((capacity W ps ≡ 1) → serve W ps n ≡ centre W (W / 2 + 1) n)
-
-    go : Dec (p ≡ skip) → Dec (p + p ≡ W + 1) → Last (without skip (run (suc p) m)) → Last (without skip (p ∷ run (suc p) m))
+    go : Dec (p ≡ skip) → Dec (p + p ≡ W + 1) → Last W n (without skip (run (suc p) m)) → Last W n (without skip (p ∷ run (suc p) m))
     go (yes z) c r = rw (without-same skip p (run (suc p) m) z) r
     go (no z) (yes c) r =
         let one = size-centre W p c in
@@ -114,15 +113,6 @@ pub centre-chain : (W p : ℕ) (n : Counts) (r0 r1 r2 r3 r4 r5 r6 : List ℕ)
 unfolding centre netList
 centre-chain W p n r0 r1 r2 r3 r4 r5 r6 a b c d e f = simp (map-append, map-replicate, closeAll-append) (cc)
 
-pub end-none : (W skip p : ℕ) (n : Counts) (room target : List ℕ) → 1 ≤ p → p ≤ suc ((W + 1) / 2) → capacity W (from W skip p) ≡ 0 → closeAll room (serve W (from W skip p) n) ≡ target → room ≡ target
-unfolding from closeAll
-end-none W skip p n room target l b h g = rw (last-run W skip (suc ((W + 1) / 2) - p) p n (omega arith) l .0 h) at g
-
-pub end-centre : (W skip p : ℕ) (n : Counts) (room room' target : List ℕ) → 1 ≤ p → p ≤ suc ((W + 1) / 2) → capacity W (from W skip p) ≡ 1
-    → room' ≡ closeAll room (centre W (W / 2 + 1) n) → closeAll room (serve W (from W skip p) n) ≡ target → room' ≡ target
-unfolding from
-end-centre W skip p n room room' target l b h e g = e ∙ (rw (last-run W skip (suc ((W + 1) / 2) - p) p n (omega arith) l .1 h) at g)
-
 -- what is known whenever the loop over the cells is tested: the cells from p on, but for one, hold r; no row before q fits them, x has
 -- the nets of row q, and the target is what the room becomes when the rest is closed
 pub record Turn (W skip r p q : ℕ) (n : Counts) (x : Seated) (room target : List ℕ) : Type 0 where
@@ -130,13 +120,13 @@ pub record Turn (W skip r p q : ℕ) (n : Counts) (x : Seated) (room target : Li
   pub upto : p ≤ suc ((W + 1) / 2)
   pub held : r ≡ capacity W (from W skip p)
   pub most : r ≤ W
-  pub within : Within r n
+  pub within : SumsWithin r n
   pub row : q < 56
   pub none : 2 ≤ r → (j : ℕ) → j < q → fits n (r - 2) j ≡ false
   pub seated : SeatedRow q x
   pub todo : closeAll room (serve W (from W skip p) n) ≡ target
 
-pub turn-start : (W skip held : ℕ) (n : Counts) (x : Seated) (room : List ℕ) → held ≡ capacity W (without skip (cells W)) → Within held n → SeatedRow 0 x
+pub turn-start : (W skip held : ℕ) (n : Counts) (x : Seated) (room : List ℕ) → held ≡ capacity W (without skip (cells W)) → SumsWithin held n → SeatedRow 0 x
     → Turn W skip held 1 0 n x room (closeAll room (serve W (without skip (cells W)) n))
 turn-start W skip held n x room e h s = record {
   low = omega arith;
@@ -150,7 +140,8 @@ turn-start W skip held n x room e h s = record {
   todo = ap (λ (ps : List ℕ). closeAll room (serve W ps n)) (from-start W skip);
 }
 
-module _ (W skip r p q : ℕ) (n : Counts) (x : Seated) (room target : List ℕ) (t : Turn W skip r p q n x room target) (two : 2 ≤ r) where
+-- a turn with two positions or more a side left
+module _ {W skip r p q : ℕ} {n : Counts} {x : Seated} {room target : List ℕ} (t : Turn W skip r p q n x room target) (two : 2 ≤ r) where
   pub turn-there : p ≤ (W + 1) / 2
   turn-there = there W skip p (omega (arith, t .held))
 
@@ -181,26 +172,26 @@ module _ (W skip r p q : ℕ) (n : Counts) (x : Seated) (room target : List ℕ)
     left : r - 2 ≡ capacity W (from W skip (p + 1))
     left = omega (arith, t .held, turn-block .left)
 
-    module _ (next : ℕ) (chosen : next ≡ pick n (r - 2)) where
-      turn-served : Served (r - 2) n
-      turn-served = served (r - 2) n (omega (arith, t .within))
+    module _ {next : ℕ} (chosen : next ≡ pick n (r - 2)) where
+      turn-loaded : Loaded (r - 2) n
+      turn-loaded = loaded (r - 2) n (omega (arith, t .within))
 
       pub turn-below : next < 56
-      turn-below = rw chosen (turn-served .below)
+      turn-below = rw chosen (turn-loaded .below)
 
-      pub turn-most : (l : Counts) → l ≡ row next → atMost l n ≡ true
+      pub turn-most : {l : Counts} → l ≡ row next → atMost l n ≡ true
       unfolding load
-      turn-most l e = part-test l n (rw (e, chosen) (turn-served .part))
+      turn-most {l} e = part-test l n (rw (e, chosen) (turn-loaded .part))
 
-      pub turn-next : (x' : Seated) (l n' : Counts) (room' : List ℕ) → SeatedRow next x' → l ≡ row next → n' ≡ less n l
-          → room' ≡ closeAll room (map (spread W p) (seats (take (x' .nets) (x' .types)) (x' .seating))) → Turn W skip (r - 2) (p + 1) next n' x' room' target
+      pub turn-next : {x' : Seated} {l n' : Counts} {room' : List ℕ} → SeatedRow next x' → l ≡ row next → n' ≡ less n l
+          → room' ≡ closeAll room (map (spread W p) (seats (netTypes x') (x' .seating))) → Turn W skip (r - 2) (p + 1) next n' x' room' target
       unfolding seating load
-      turn-next x' l n' room' s e f g = record {
+      turn-next {x'} {l} {n'} {room'} s e f g = record {
         low = omega arith;
         upto = omega (arith, turn-place);
         held = left;
         most = omega (arith, t .most);
-        within = rw (f, e, chosen) (turn-served .leaves);
+        within = rw (f, e, chosen) (turn-loaded .leaves);
         row = turn-below;
         none = λ h j b. rw (f, e) (none-later h j b);
         seated = s;
@@ -214,13 +205,25 @@ module _ (W skip r p q : ℕ) (n : Counts) (x : Seated) (room target : List ℕ)
 
           todo : room' ≡ closeAll room (map (spread W p) (seating (row next))) → closeAll room' (serve W (from W skip (p + 1)) (less n (row next))) ≡ target
           todo h =
-              let is : row next ≡ load n (capacity W (from W skip (p + 1))) = ap row (chosen ∙ ap (pick n) left) in
-              rw (h, is) (sym (closeAll-append room (map (spread W p) (seating (load n (capacity W (from W skip (p + 1)))))) (serve W (from W skip (p + 1)) (less n (load n (capacity W (from W skip (p + 1)))))))
-              ∙ ap (closeAll room) (sym (turn-block .serves n)) ∙ t .todo)
+              let l = load n (capacity W (from W skip (p + 1))) in
+              let is : row next ≡ l = ap row (chosen ∙ ap (pick n) left) in
+              rw (h, is) (sym (closeAll-append room (map (spread W p) (seating l)) (serve W (from W skip (p + 1)) (less n l))) ∙ ap (closeAll room) (sym (turn-block .serves n)) ∙ t .todo)
 
--- with one position left the counts fit the centre
-pub one-left : (W skip r p q : ℕ) (n : Counts) (x : Seated) (room target : List ℕ) → Turn W skip r p q n x room target → r ≡ 1 → (Within 1 n) × (W / 2 + 1 ≤ W)
-one-left W skip r p q n x room target t e = (omega (arith, t .within), omega (arith, there W skip p (omega (arith, t .held)), t .low))
+-- the last turn: with one position a side left the counts fit the centre, and with none there is nothing to do
+module _ {W skip r p q : ℕ} {n : Counts} {x : Seated} {room target : List ℕ} (t : Turn W skip r p q n x room target) where
+  last : Last W n (from W skip p)
+  unfolding from
+  last = last-run W skip (suc ((W + 1) / 2) - p) p n (omega (arith, t .upto)) (t .low)
+
+  pub one-left : r ≡ 1 → SumsWithin 1 n × (W / 2 + 1 ≤ W)
+  one-left e = (omega (arith, t .within), omega (arith, there W skip p (omega (arith, t .held)), t .low))
+
+  pub end-centre : r ≡ 1 → {room' : List ℕ} → room' ≡ closeAll room (centre W (W / 2 + 1) n) → room' ≡ target
+  end-centre h e = e ∙ (rw (last .1 (sym (t .held) ∙ h)) at (t .todo))
+
+  pub end-none : r ≡ 0 → room ≡ target
+  unfolding closeAll
+  end-none h = rw (last .0 (sym (t .held) ∙ h)) at (t .todo)
 
 -- no cell has low position 0: with none left out the relays are those of the whole rule
 pub all-hold : (W : ℕ) → W ≡ capacity W (without 0 (cells W))

@@ -1,3 +1,2 @@
 pub mod Route
 pub mod Router
-pub mod Seated

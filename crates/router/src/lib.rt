@@ -3,56 +3,21 @@ ghost use mathlib.Core.Path.{_≡_};
 ghost use mathlib.Core.Bool.{true};
 ghost use mathlib.Core.List.{map};
 ghost use Prim.Native.Nat.{_+_, _*_, _≤_, _<_};
-ghost use lib.ListN.{take, replicate};
+ghost use lib.ListN.{replicate};
 ghost use Rattle.wiring.specs.Wiring.{nets};
 ghost use Rattle.wiring.specs.Frame.{relay};
 ghost use Rattle.wiring.specs.Map.{withClosed, closeAll};
 ghost use Rattle.frame.specs.Leaves.{countList};
-ghost use Rattle.frame.specs.Tests.{overfull};
-ghost use Rattle.loads.specs.Table.{table};
 ghost use Rattle.loads.specs.Load.{within};
 ghost use Rattle.loads.specs.Seat.{seats};
+ghost use Rattle.loads.specs.Seated.{netTypes, Nets};
 ghost use Rattle.cells.specs.Cells.{capacity, cells, without};
 ghost use Rattle.cells.specs.Serve.{lowHigh, spread, centre, serve};
 ghost use Rattle.router.specs.Route.{relaysFor};
 ghost use Rattle.router.specs.Router.{routeAnswer, routeRoom};
-ghost use Rattle.router.specs.Seated.{SeatedRow, Nets};
 use answers::Answer;
 use frame::Counts;
-use frame::Over;
-
-// The nets of a row, by their types, and their seating. It is kept while the row stays.
-struct Seated {
-    types: [u8; 4],
-    nets: usize,
-    seating: u64,
-}
-
-// The nets of row q, seated.
-fn seat_row(rows: &[u8; 336], q: usize) -> Seated
-    requires { ⌜ (now rows ≡ table) × (q < 56) ⌝ }
-    ensures { λ r. ⌜ SeatedRow q r ⌝ }
-{
-    let mut types = [0u8; 4];
-    let nets = loads::nets_of(rows, q, &mut types);
-    let seating = loads::seat(&types[..nets]);
-    Seated {
-        types,
-        nets,
-        seating,
-    }
-}
-
-// The seating of row `next`, where that of row q is at hand.
-fn seat_next(rows: &[u8; 336], q: usize, next: usize, kept: Seated) -> Seated
-    requires { ⌜ (now rows ≡ table) × (next < 56) × SeatedRow q kept ⌝ }
-    ensures { λ r. ⌜ SeatedRow next r ⌝ }
-{
-    if next == q {
-        return kept;
-    }
-    seat_row(rows, next)
-}
+use loads::Seated;
 
 // Closes the relay of a net of a type that is seated low (0) or high (1) in the block with low position p.
 fn close_net(room: &mut [u8], w: usize, p: usize, kind: u8, high: u64)
@@ -70,7 +35,7 @@ fn close_net(room: &mut [u8], w: usize, p: usize, kind: u8, high: u64)
 // Closes the relays of the block with low position p.
 fn close_block(room: &mut [u8], w: usize, p: usize, seated: Seated)
     requires { ⌜ Nets seated × (1 ≤ p) × (p ≤ w) × (w ≤ 64) ⌝ }
-    ensures { λ _. ⌜ now (room .exit) ≡ closeAll (now (room .entry)) (map (spread w p) (seats (take (seated .nets) (seated .types)) (seated .seating))) ⌝ }
+    ensures { λ _. ⌜ now (room .exit) ≡ closeAll (now (room .entry)) (map (spread w p) (seats (netTypes seated) (seated .seating))) ⌝ }
 {
     let types = seated.types;
     let nets = seated.nets;
@@ -115,7 +80,7 @@ pub fn close_cells(room: &mut [u8], w: usize, skip: usize, held: usize, counts: 
     let mut r = held;
     let mut p = 1;
     let mut q = 0;
-    let mut seated = seat_row(&rows, 0);
+    let mut seated = loads::seat_row(&rows, 0);
     while 2 <= r {
         if p == skip {
             p += 1;
@@ -123,7 +88,7 @@ pub fn close_cells(room: &mut [u8], w: usize, skip: usize, held: usize, counts: 
         }
         r -= 2;
         let next = loads::next_row(&rows, n, r as u16, q);
-        seated = seat_next(&rows, q, next, seated);
+        seated = loads::seat_next(&rows, q, next, seated);
         q = next;
         close_block(room, w, p, seated);
         n = loads::less(n, loads::row_at(&rows, q));
@@ -142,16 +107,6 @@ fn close_all(room: &mut [u8], w: usize, counts: Counts)
     close_cells(room, w, 0, w, counts);
 }
 
-// The refusal of an overfull side; done where there is none.
-fn overfull_answer(over: Over) -> Answer
-    ensures { λ r. ⌜ r ≡ overfull over ⌝ }
-{
-    match over {
-        Over::Above(side, sum) => Answer::Overfull(side, sum),
-        Over::Nowhere => Answer::Done,
-    }
-}
-
 // Picks the relays for a job and writes their map at the start of the room.
 pub fn route(size: u16, counts: Counts, room: &mut [u8]) -> Answer
     ensures { λ r. ⌜ r ≡ routeAnswer size counts (now (room .entry)) ⌝ }
@@ -165,9 +120,9 @@ pub fn route(size: u16, counts: Counts, room: &mut [u8]) -> Answer
     if room.len() < bytes {
         return Answer::Room(bytes);
     }
-    let over = frame::first_over(size, counts);
-    let Over::Nowhere = over else {
-        return overfull_answer(over);
+    let over = frame::test_overfull(size, counts);
+    let Answer::Done = over else {
+        return over;
     };
     maps::clear(room, bytes);
     close_all(room, size as usize, counts);

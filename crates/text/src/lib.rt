@@ -19,7 +19,7 @@ pub fn put_bytes(room: &mut [u8], at: usize, bytes: &[u8]) -> usize
     requires { ⌜ at + length (now bytes) ≤ length (now room) ⌝ }
     ensures { λ r. ⌜ Wrote (now (room .entry)) at (now (bytes .entry)) (now (room .exit)) r ⌝ }
 {
-    fields::put_bytes(room, at, bytes);
+    puts::put_bytes(room, at, bytes);
     at + bytes.len()
 }
 

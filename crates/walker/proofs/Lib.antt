@@ -1,3 +1,2 @@
 pub mod Walks
 pub mod Holds
-pub mod Jobs

@@ -1,13 +1,14 @@
 -- `changes::add_net` meets its contract: each way out of the code is an outcome of the definitions. Assumes nothing.
-use mathlib.Core.Path.{_≡_, sym, _∙_}
+use mathlib.Core.Path.{_≡_, sym, ap, _∙_}
 use native.Mathlib.Omega.{arith}
 use borrow.Author.Needs.{needs}
 use Rattle.answers.specs.declared.Answer.the-variants.{Done}
-use Rattle.answers.proofs.Laws.{else-refused}
+use Rattle.answers.specs.Lent.{isDone}
+use Rattle.answers.proofs.Done.{else-refused}
 use Rattle.changes.specs.Start.{startTest}
-use Rattle.changes.specs.Calls.{typeTest}
+use Rattle.changes.specs.Technician.{typeTest}
 use Rattle.changes.proofs.Answers.{start-served, type-is}
-use Rattle.changes.proofs.Outcomes.{add-start, add-type, add-none, add-done}
+use Rattle.changes.proofs.Ways.{add-start, add-type, add-none, add-done}
 use Rattle.changes.proofs.add_net.Statement.{statement}
 use Rattle.changes.proofs.add_net.Tie as tie
 
@@ -18,14 +19,11 @@ started c = sym (c .before .before .test-start .ensures) ∙ c .enum-told .given
 typed : (c : tie.After-enum-told2) → typeTest (c .before .before .before .before .before .before .before .before .args .kind) ≡ Done
 typed c = sym (c .before .before .test-type .ensures) ∙ c .enum-told2 .given .1
 
-returns : tie.Need-returns
-returns c = add-start _ _ _ _ (c .before .test-start .ensures) (else-refused (c .before .test-start .result) (c .match .keys2))
-
 returns-2 : tie.Need-returns-2
 returns-2 c = add-type _ _ _ (started (c .before .before)) _ (c .before .test-type .ensures) (else-refused (c .before .test-type .result) (c .match2 .keys2))
 
 lowest-free-requires : tie.Need-lowest-free-requires
-lowest-free-requires c κs = let t = type-is _ (typed (c .before)) in (start-served _ _ (started (c .before .before .before .before)) .1, t .0, t .1)
+lowest-free-requires c κs = let t = type-is _ (ap isDone (typed (c .before))) in (start-served _ _ (started (c .before .before .before .before)) .1, t .0, t .1)
 
 returns-3 : tie.Need-returns-3
 returns-3 c = add-none _ _ _ (started (c .before .before .before .before .before .before)) (typed (c .before .before .before)) _ (c .before .lowest-free .ensures) (c .if1 .taken)
@@ -44,17 +42,12 @@ pub add-net-spec : {M : Type 1} → statement M
 add-net-spec =
     tie.close
     (tie.spec
-    (λ c κs. search needs)
-    (λ c. search needs)
-    (λ c. search needs)
-    returns
-    (λ c κs. search needs)
-    (λ c. search needs)
-    (λ c. search needs)
+    (λ c κs. search needs) (λ c. search needs) (λ c. search needs)
+    (λ c. add-start _ _ _ _ (c .before .test-start .ensures) (else-refused (c .before .test-start .result) (c .match .keys2)))
+    (λ c κs. search needs) (λ c. search needs) (λ c. search needs)
     returns-2
     lowest-free-requires
-    (λ c. search needs)
-    (λ c. search needs)
+    (λ c. search needs) (λ c. search needs)
     returns-3
     (λ c κs. search needs)
     cast-t18

@@ -1,7 +1,7 @@
 -- `jobs::put_head` meets its contract: the counts are put where the size ended. Assumes nothing.
 use borrow.Author.Needs.{needs}
 use denote.Ref.{now}
-use Rattle.fields.proofs.Puts.{onto}
+use Rattle.puts.proofs.Puts.{onto}
 use Rattle.jobs.specs.Format.{sizeField, countsField}
 use Rattle.jobs.proofs.put_head.Statement.{statement}
 use Rattle.jobs.proofs.put_head.Tie as tie

@@ -4,7 +4,7 @@ use mathlib.Core.List.{[], _∷_}
 use borrow.Author.Needs.{needs}
 use denote.Ref.{now}
 use Rattle.fields.specs.Format.{wordBytes}
-use Rattle.fields.proofs.Puts.{onto}
+use Rattle.puts.proofs.Puts.{onto}
 use Rattle.jobs.proofs.put_size.Statement.{statement}
 use Rattle.jobs.proofs.put_size.Tie as tie
 

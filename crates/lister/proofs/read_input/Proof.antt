@@ -29,53 +29,11 @@ read c = part _ _ _ (c .before .before .before .loop .inv .0) (c .read-once .kep
 told : (c : tie.After-known-told Inv-loop μ-loop) → c .before .more .given .0 .0 ≤ length (c .before .before .before .before .before .read-once .last .0)
 told c = rw (c .before .more .given .1) at (c .before .before .before .before .before .read-once .ensures)
 
-loop-holds : tie.Need-loop-holds Inv-loop μ-loop
-loop-holds c = search needs
-
-sub-read-once : tie.Need-sub-read-once Inv-loop μ-loop
-sub-read-once c = search needs
-
-part-read-once-start : tie.Need-part-read-once-start Inv-loop μ-loop
-part-read-once-start c = search needs
-
-part-read-once-end : tie.Need-part-read-once-end Inv-loop μ-loop
-part-read-once-end c = search needs
-
-read-once-requires : tie.Need-read-once-requires Inv-loop μ-loop
-read-once-requires c κs = search needs
-
-enum-known-more : tie.Need-enum-known-more Inv-loop μ-loop
-enum-known-more c = search needs
-
-enum-told : tie.Need-enum-told Inv-loop μ-loop
-enum-told c = search needs
-
 same-length : tie.Need-same-length Inv-loop μ-loop
 same-length c = read (c .before .before .before .before) .whole ∙ c .before .before .before .before .before .before .before .loop .inv .1
 
-returns : tie.Need-returns Inv-loop μ-loop
-returns c = search needs
-
 same-length-2 : tie.Need-same-length-2 Inv-loop μ-loop
 same-length-2 c = read (c .before .before .before .before .before .before) .whole ∙ c .before .before .before .before .before .before .before .before .before .loop .inv .1
-
-returns-2 : tie.Need-returns-2 Inv-loop μ-loop
-returns-2 c = omega (arith, read (c .before .before .before .before .before .before))
-
-add-n : tie.Need-add-n Inv-loop μ-loop
-add-n c = omega (arith, read (c .before .before .before .before .before .before), told (c .before))
-
-loop-less : tie.Need-loop-less Inv-loop μ-loop
-loop-less c = omega (arith, read (c .before .before .before .before .before .before), told (c .before))
-
-loop-again : tie.Need-loop-again Inv-loop μ-loop
-loop-again c = omega (arith, read (c .before .before .before .before .before .before), told (c .before))
-
-same-length-3 : tie.Need-same-length-3 Inv-loop μ-loop
-same-length-3 c = search needs
-
-returns-3 : tie.Need-returns-3 Inv-loop μ-loop
-returns-3 c = search needs
 
 pub read-input-spec : {M : Type 1} → statement M
 read-input-spec =
@@ -83,19 +41,13 @@ read-input-spec =
     (tie.spec
     Inv-loop
     μ-loop
-    loop-holds
-    sub-read-once
-    part-read-once-start
-    part-read-once-end
-    read-once-requires
-    enum-known-more
-    enum-told
+    (λ c. search needs) (λ c. search needs) (λ c. search needs) (λ c. search needs) (λ c κs. search needs)
+    (λ c. search needs) (λ c. search needs)
     same-length
-    returns
+    (λ c. search needs)
     same-length-2
-    returns-2
-    add-n
-    loop-less
-    loop-again
-    same-length-3
-    returns-3)
+    (λ c. omega (arith, read (c .before .before .before .before .before .before)))
+    (λ c. omega (arith, read (c .before .before .before .before .before .before), told (c .before)))
+    (λ c. omega (arith, read (c .before .before .before .before .before .before), told (c .before)))
+    (λ c. omega (arith, read (c .before .before .before .before .before .before), told (c .before)))
+    (λ c. search needs) (λ c. search needs))

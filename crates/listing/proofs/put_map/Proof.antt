@@ -10,16 +10,15 @@ use Rattle.listing.proofs.put_map.Tie as tie
 counted : (c : tie.After-count-closed) → IsMapText (c .before .before .before .before .args .size) (c .count-closed .result) (c .before .before .before .before .args .map .now)
 counted c = is-map-text _ _ _ (c .count-closed .ensures)
 
-put-size-line-requires : tie.Need-put-size-line-requires
-put-size-line-requires c κs = omega (arith, counted c)
-
-put-nets-requires : tie.Need-put-nets-requires
-put-nets-requires c κs = omega (arith, counted (c .before .before .before .before))
-
 returns : tie.Need-returns
 returns c = wrote-as (counted (c .before .before .before .before .before .before .before) .text) (wrote-append (c .before .before .before .before .before .before .put-size-line .ensures) (c .before .before .put-nets .ensures))
 
 pub put-map-spec : {M : Type 1} → statement M
 put-map-spec =
     tie.close
-    (tie.spec (λ c κs. search needs) put-size-line-requires put-nets-requires (λ c. search needs) returns)
+    (tie.spec
+    (λ c κs. search needs)
+    (λ c κs. omega (arith, counted c))
+    (λ c κs. omega (arith, counted (c .before .before .before .before)))
+    (λ c. search needs)
+    returns)

@@ -21,15 +21,6 @@ returns c = absurd (some-relay _ _ (c .before .before .before .before .pre .0) (
 returns-2 : tie.Need-returns-2
 returns-2 c = absurd (some-terminals _ _ (c .before .before .before .before .before .before .before .before .pre .0) (sym (c .before .before .relay-terminals .ensures) ∙ c .enum-told2 .given .1))
 
-put-decimal-requires : tie.Need-put-decimal-requires
-put-decimal-requires c κs = omega (arith, net (c .before .before))
-
-put-terminal-requires : tie.Need-put-terminal-requires
-put-terminal-requires c κs = omega (arith, net (c .before .before .before .before .before .before))
-
-put-terminal-requires-2 : tie.Need-put-terminal-requires-2
-put-terminal-requires-2 c κs = omega (arith, net (c .before .before .before .before .before .before .before .before .before .before))
-
 put-byte-requires : tie.Need-put-byte-requires
 put-byte-requires c κs = omega (arith, net (c .before .before .before .before .before .before .before .before .before .before .before .before .before .before))
 
@@ -44,17 +35,13 @@ pub put-net-spec : {M : Type 1} → statement M
 put-net-spec =
     tie.close
     (tie.spec
-    (λ c κs. search needs)
-    (λ c. search needs)
-    (λ c. search needs)
+    (λ c κs. search needs) (λ c. search needs) (λ c. search needs)
     returns
-    (λ c κs. search needs)
-    (λ c. search needs)
-    (λ c. search needs)
+    (λ c κs. search needs) (λ c. search needs) (λ c. search needs)
     returns-2
-    put-decimal-requires
-    put-terminal-requires
-    put-terminal-requires-2
+    (λ c κs. omega (arith, net (c .before .before)))
+    (λ c κs. omega (arith, net (c .before .before .before .before .before .before)))
+    (λ c κs. omega (arith, net (c .before .before .before .before .before .before .before .before .before .before)))
     put-byte-requires
     (λ c. search needs)
     returns-3)

@@ -17,26 +17,11 @@ Inv-loop room₀ at size map relays next₀ relay₀ room next relay = (relay �
 abbrev μ-loop : tie.MeasureT-loop
 μ-loop room₀ at size map relays next₀ relay₀ room next relay = relays - relay
 
-mul-relays : tie.Need-mul-relays Inv-loop μ-loop
-mul-relays c = omega arith
-
-loop-holds : tie.Need-loop-holds Inv-loop μ-loop
-loop-holds c = (omega arith, nets-none _ _)
-
-is-closed-requires : tie.Need-is-closed-requires Inv-loop μ-loop
-is-closed-requires c κs = search needs
-
 put-net-requires : tie.Need-put-net-requires Inv-loop μ-loop
 put-net-requires c κs = (
   omega arith,
   omega (arith, wrote-length (c .before .before .before .before .loop .inv .1), nets-room (c .before .before .before .before .before .before .before .args .size) (c .before .before .before .before .loop .relay) (6 * c .before .before .before .before .before .before .before .args .size) (c .before .before .before .before .before .before .before .args .map .now) (omega arith) (sym (c .before .before .is-closed .ensures) ∙ c .before .if1 .taken)),
 )
-
-add-relay : tie.Need-add-relay Inv-loop μ-loop
-add-relay c = omega arith
-
-loop-less : tie.Need-loop-less Inv-loop μ-loop
-loop-less c = omega arith
 
 loop-again : tie.Need-loop-again Inv-loop μ-loop
 loop-again c =
@@ -44,9 +29,6 @@ loop-again c =
     (λ w. (omega arith, rw (w .5, w .6) (nets-closed _ _ _ (sym (c .before .is-closed .ensures) ∙ w .0 .taken) (c .before .before .before .loop .inv .1) (w .2 .ensures))))
     (λ w. (omega arith, rw (w .1, w .2) (nets-open _ _ _ (sym (c .before .is-closed .ensures) ∙ w .0 .left) (c .before .before .before .loop .inv .1))))
     (c .if1 .came)
-
-same-length : tie.Need-same-length Inv-loop μ-loop
-same-length c = wrote-length (c .before .loop .inv .1)
 
 returns : tie.Need-returns Inv-loop μ-loop
 returns c =
@@ -59,12 +41,11 @@ put-nets-spec =
     (tie.spec
     Inv-loop
     μ-loop
-    mul-relays
-    loop-holds
-    is-closed-requires
+    (λ c. omega arith)
+    (λ c. (omega arith, nets-none _ _))
+    (λ c κs. search needs)
     put-net-requires
-    add-relay
-    loop-less
+    (λ c. omega arith) (λ c. omega arith)
     loop-again
-    same-length
+    (λ c. wrote-length (c .before .loop .inv .1))
     returns)

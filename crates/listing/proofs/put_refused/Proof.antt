@@ -10,15 +10,6 @@ use Rattle.listing.proofs.put_refused.Tie as tie
 told : (c : tie.After-number) → IsRefused (c .before .before .before .args .a) (c .before .code .result) (c .number .result)
 told c = is-refused _ _ _ (c .before .code .ensures) (c .number .ensures)
 
-put-bytes-requires : tie.Need-put-bytes-requires
-put-bytes-requires c κs = omega (arith, told (c .before .before))
-
-put-decimal-requires : tie.Need-put-decimal-requires
-put-decimal-requires c κs = omega (arith, told (c .before .before .before .before .before .before))
-
-put-byte-requires : tie.Need-put-byte-requires
-put-byte-requires c κs = omega (arith, told (c .before .before .before .before .before .before .before .before .before .before))
-
 put-decimal-requires-2 : tie.Need-put-decimal-requires-2
 put-decimal-requires-2 c κs = omega (arith, told (c .before .before .before .before .before .before .before .before .before .before .before .before .before .before))
 
@@ -37,13 +28,10 @@ pub put-refused-spec : {M : Type 1} → statement M
 put-refused-spec =
     tie.close
     (tie.spec
-    (λ c κs. search needs)
-    (λ c. search needs)
-    (λ c κs. search needs)
-    (λ c. search needs)
-    put-bytes-requires
-    put-decimal-requires
-    put-byte-requires
+    (λ c κs. search needs) (λ c. search needs) (λ c κs. search needs) (λ c. search needs)
+    (λ c κs. omega (arith, told (c .before .before)))
+    (λ c κs. omega (arith, told (c .before .before .before .before .before .before)))
+    (λ c κs. omega (arith, told (c .before .before .before .before .before .before .before .before .before .before)))
     put-decimal-requires-2
     put-byte-requires-2
     (λ c. search needs)

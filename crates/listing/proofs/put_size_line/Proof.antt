@@ -7,20 +7,17 @@ use Rattle.listing.proofs.Lines.{size-length}
 use Rattle.listing.proofs.put_size_line.Statement.{statement}
 use Rattle.listing.proofs.put_size_line.Tie as tie
 
-put-bytes-requires : tie.Need-put-bytes-requires
-put-bytes-requires c κs = omega (arith, size-length (c .before .before .before .args .size) (c .before .before .before .args .nets))
-
 put-decimal-requires : tie.Need-put-decimal-requires
-put-decimal-requires c κs = omega (arith, size-length (c .before .before .before .before .before .before .before .args .size) (c .before .before .before .before .before .before .before .args .nets))
+put-decimal-requires c κs = let start = c .before .before .before .before .before .before .before .args in omega (arith, size-length (start .size) (start .nets))
 
 put-bytes-requires-2 : tie.Need-put-bytes-requires-2
-put-bytes-requires-2 c κs = omega (arith, size-length (c .before .before .before .before .before .before .before .before .before .before .before .before .args .size) (c .before .before .before .before .before .before .before .before .before .before .before .before .args .nets))
+put-bytes-requires-2 c κs = let start = c .before .before .before .before .before .before .before .before .before .before .before .before .args in omega (arith, size-length (start .size) (start .nets))
 
 put-decimal-requires-2 : tie.Need-put-decimal-requires-2
-put-decimal-requires-2 c κs = omega (arith, size-length (c .before .before .before .before .before .before .before .before .before .before .before .before .before .before .before .before .args .size) (c .before .before .before .before .before .before .before .before .before .before .before .before .before .before .before .before .args .nets))
+put-decimal-requires-2 c κs = let start = c .before .before .before .before .before .before .before .before .before .before .before .before .before .before .before .before .args in omega (arith, size-length (start .size) (start .nets))
 
 put-byte-requires : tie.Need-put-byte-requires
-put-byte-requires c κs = omega (arith, size-length (c .before .before .before .before .before .before .before .before .before .before .before .before .before .before .before .before .before .before .before .before .args .size) (c .before .before .before .before .before .before .before .before .before .before .before .before .before .before .before .before .before .before .before .before .args .nets))
+put-byte-requires c κs = let start = c .before .before .before .before .before .before .before .before .before .before .before .before .before .before .before .before .before .before .before .before .args in omega (arith, size-length (start .size) (start .nets))
 
 returns : tie.Need-returns
 unfolding sizeLine
@@ -35,7 +32,7 @@ put-size-line-spec =
     tie.close
     (tie.spec
     (λ c. search needs)
-    put-bytes-requires
+    (λ c κs. let start = c .before .before .before .args in omega (arith, size-length (start .size) (start .nets)))
     put-decimal-requires
     (λ c. search needs)
     put-bytes-requires-2

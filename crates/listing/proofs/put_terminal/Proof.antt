@@ -8,10 +8,10 @@ use Rattle.listing.proofs.put_terminal.Statement.{statement}
 use Rattle.listing.proofs.put_terminal.Tie as tie
 
 put-byte-requires-2 : tie.Need-put-byte-requires-2
-put-byte-requires-2 c κs = omega (arith, terminal-length (c .before .before .before .before .before .before .before .args .t .side) (c .before .before .before .before .before .before .before .args .t .position))
+put-byte-requires-2 c κs = let start = c .before .before .before .before .before .before .before .args in omega (arith, terminal-length (start .t .side) (start .t .position))
 
 put-decimal-requires : tie.Need-put-decimal-requires
-put-decimal-requires c κs = omega (arith, terminal-length (c .before .before .before .before .before .before .before .before .before .before .before .args .t .side) (c .before .before .before .before .before .before .before .before .before .before .before .args .t .position))
+put-decimal-requires c κs = let start = c .before .before .before .before .before .before .before .before .before .before .before .args in omega (arith, terminal-length (start .t .side) (start .t .position))
 
 returns : tie.Need-returns
 unfolding terminalText
@@ -23,8 +23,7 @@ pub put-terminal-spec : {M : Type 1} → statement M
 put-terminal-spec =
     tie.close
     (tie.spec
-    (λ c κs. search needs)
-    (λ c κs. search needs)
+    (λ c κs. search needs) (λ c κs. search needs)
     put-byte-requires-2
     put-decimal-requires
     (λ c. search needs)

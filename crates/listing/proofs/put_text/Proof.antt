@@ -1,8 +1,9 @@
--- `listing::put_text` meets its contract. Assumes nothing.
+-- `listing::put_text` meets its contract: the reader refuses, or the text is that of the job. Assumes nothing.
 use mathlib.Core.Path.{_≡_, ap}
 use native.Mathlib.Omega.{arith}
 use borrow.Author.Needs.{needs}
 use lib.ListN.{length}
+use Rattle.answers.proofs.Done.{else-refused}
 use Rattle.text.proofs.Stores.{wrote-as}
 use Rattle.listing.specs.Lines.{refusedText}
 use Rattle.listing.specs.Listing.{jobText, textOf}
@@ -10,33 +11,20 @@ use Rattle.listing.proofs.Texts.{text-refused, text-read}
 use Rattle.listing.proofs.put_text.Statement.{statement}
 use Rattle.listing.proofs.put_text.Tie as tie
 
-refused : (c : tie.Then1) → textOf (c .before .before .before .before .before .args .input .now) ≡ refusedText (c .before .before .read-job .result .answer)
-refused c = text-refused _ _ _ (c .before .before .read-job .ensures) (c .before .code .ensures) (c .if1 .taken)
+refused : (c : tie.At-match-keys2) → let read = c .before in textOf (read .before .before .before .args .input .now) ≡ refusedText (read .read-job .result .answer)
+refused c = let read = c .before in text-refused _ _ (read .read-job .ensures) (else-refused (read .read-job .result .answer) (c .match .keys2))
 
-read : (c : tie.Else1) → textOf (c .before .before .before .before .before .args .input .now) ≡ jobText (c .before .before .read-job .result .job)
-read c = text-read _ _ _ (c .before .before .read-job .ensures) (c .before .code .ensures) (c .if1 .left)
-
-put-refused-requires : tie.Need-put-refused-requires
-put-refused-requires c κs = omega (arith, ap length (refused (c .before)))
-
-returns : tie.Need-returns
-returns c = wrote-as (refused (c .before .before .before .before)) (c .before .before .put-refused .ensures)
-
-put-job-requires : tie.Need-put-job-requires
-put-job-requires c κs = omega (arith, ap length (read (c .before)))
-
-returns-2 : tie.Need-returns-2
-returns-2 c = wrote-as (read (c .before .before .before .before)) (c .before .before .put-job .ensures)
+given : (c : tie.After-enum-told) → let read = c .before .before in textOf (read .before .before .before .args .input .now) ≡ jobText (read .read-job .result .job)
+given c = let read = c .before .before in text-read _ _ (read .read-job .ensures) (c .enum-told .given .1)
 
 pub put-text-spec : {M : Type 1} → statement M
 put-text-spec =
     tie.close
     (tie.spec
-    (λ c κs. search needs)
-    (λ c κs. search needs)
-    put-refused-requires
+    (λ c κs. search needs) (λ c. search needs)
+    (λ c κs. omega (arith, ap length (refused (c .before))))
     (λ c. search needs)
-    returns
-    put-job-requires
+    (λ c. wrote-as (refused (c .before .before .before .before)) (c .before .before .put-refused .ensures))
+    (λ c κs. omega (arith, ap length (given (c .before))))
     (λ c. search needs)
-    returns-2)
+    (λ c. wrote-as (given (c .before .before .before .before)) (c .before .before .put-job .ensures)))

@@ -9,20 +9,12 @@ use Rattle.listing.proofs.side_letter.Tie as tie
 above : (s : ℕ) → 1 ≤ s → (((Unit {0} × (s ≡ 1 → ⊥)) × (s ≡ 2 → ⊥)) × (s ≡ 3 → ⊥)) × (s ≡ 4 → ⊥) → 5 ≤ s
 above s p r = omega arith
 
-returns : tie.Need-returns
-returns c = rw (c .match .keys1)
-
-returns-2 : tie.Need-returns-2
-returns-2 c = rw (c .match .keys2)
-
-returns-3 : tie.Need-returns-3
-returns-3 c = rw (c .match .keys3)
-
-returns-4 : tie.Need-returns-4
-returns-4 c = rw (c .match .keys4)
-
-returns-5 : tie.Need-returns-5
-returns-5 c = letter-none (c .before .args .side) (above _ (c .before .pre) (c .match .rest))
-
 pub side-letter-spec : {M : Type 1} → statement M
-side-letter-spec = tie.close (tie.spec returns returns-2 returns-3 returns-4 returns-5)
+side-letter-spec =
+    tie.close
+    (tie.spec
+    (λ c. rw (c .match .keys1))
+    (λ c. rw (c .match .keys2))
+    (λ c. rw (c .match .keys3))
+    (λ c. rw (c .match .keys4))
+    (λ c. letter-none (c .before .args .side) (above _ (c .before .pre) (c .match .rest))))

@@ -22,31 +22,10 @@ Inv-loop size map touched₀ k₀ touched k = (touched ≡ marksOf (frame size) 
 abbrev μ-loop : tie.MeasureT-loop
 μ-loop size map touched₀ k₀ touched k = 6 * size - k
 
-loop-holds : tie.Need-loop-holds Inv-loop μ-loop
-loop-holds c = (marks-start _ _, λ j h. absurd (omega arith), omega arith)
-
-mul-loop : tie.Need-mul-loop Inv-loop μ-loop
-mul-loop c = search needs
-
-is-closed-requires : tie.Need-is-closed-requires Inv-loop μ-loop
-is-closed-requires c κs = search needs
-
-relay-marked-requires : tie.Need-relay-marked-requires Inv-loop μ-loop
-relay-marked-requires c κs = search needs
-
 returns : tie.Need-returns Inv-loop μ-loop
 returns c =
     let at-loop = c .before .before .before .before .before in
     clash-here _ (frame-worded _ (at-loop .before .before .pre)) _ _ _ (at-loop .loop .inv .0) (at-loop .loop .inv .1) (c .before .before .before .before .loop-test .taken) (sym (c .before .before .before .is-closed .ensures) ∙ c .before .before .if1 .taken) (sym (c .before .relay-marked .ensures) ∙ c .if2 .taken)
-
-mark-relay-requires : tie.Need-mark-relay-requires Inv-loop μ-loop
-mark-relay-requires c κs = search needs
-
-add-k : tie.Need-add-k Inv-loop μ-loop
-add-k c = search needs
-
-loop-less : tie.Need-loop-less Inv-loop μ-loop
-loop-less c = search needs
 
 loop-again : tie.Need-loop-again Inv-loop μ-loop
 loop-again c =
@@ -59,11 +38,10 @@ loop-again c =
           (λ t. marks-more _ _ _ _ _ (inv .0) (closed ∙ t .0 .taken) (t .4 ∙ t .3 .ensures))
           (λ t. rw (t .1) (marks-same _ _ _ _ (inv .0) (closed ∙ t .0 .left)))
           (c .if1 .came)),
-      rw (add-one (at-loop .loop .k))
-          (⊎-elim
+      ⊎-elim
           (λ t. none-unmarked _ worded _ _ _ (inv .0) (inv .1) (c .before .before .loop-test .taken) (closed ∙ t .0 .taken) (sym (t .1 .ensures) ∙ t .2 .left))
           (λ t. none-open _ worded _ _ _ (inv .0) (inv .1) (closed ∙ t .0 .left))
-          (c .if1 .came)),
+          (c .if1 .came),
       omega arith,
     )
 
@@ -76,13 +54,9 @@ first-clash-spec =
     (tie.spec
     Inv-loop
     μ-loop
-    loop-holds
-    mul-loop
-    is-closed-requires
-    relay-marked-requires
+    (λ c. (marks-start _ _, λ j h. absurd (omega arith), omega arith))
+    (λ c. search needs) (λ c κs. search needs) (λ c κs. search needs)
     returns
-    mark-relay-requires
-    add-k
-    loop-less
+    (λ c κs. search needs) (λ c. search needs) (λ c. search needs)
     loop-again
     returns-2)

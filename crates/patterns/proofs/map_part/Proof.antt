@@ -8,12 +8,6 @@ use borrow.Author.Needs.{needs}
 use Rattle.patterns.proofs.map_part.Statement.{statement}
 use Rattle.patterns.proofs.map_part.Tie as tie
 
-returns : tie.Need-returns
-returns c = part-outside (now (c .before .before .args .s)) (c .before .before .args .read) (omega arith)
-
-returns-2 : tie.Need-returns-2
-returns-2 c = part-outside (now (c .before .before .before .args .s)) (c .before .before .before .args .read) (omega arith)
-
 returns-3 : tie.Need-returns-3
 returns-3 c =
     let start = c .before .before .before .args in
@@ -24,12 +18,8 @@ map-part-spec =
     tie.close
     (tie.spec
     (λ c. search needs)
-    returns
-    (λ c. search needs)
-    (λ c. search needs)
-    returns-2
-    (λ c. search needs)
-    (λ c. search needs)
-    (λ c. search needs)
-    (λ c. search needs)
+    (λ c. part-outside _ (c .before .before .args .read) (omega arith))
+    (λ c. search needs) (λ c. search needs)
+    (λ c. part-outside _ (c .before .before .before .args .read) (omega arith))
+    (λ c. search needs) (λ c. search needs) (λ c. search needs) (λ c. search needs)
     returns-3)

@@ -4,11 +4,12 @@ use mathlib.Core.Path.{_≡_, sym, _∙_}
 use native.Mathlib.Omega.{arith}
 use denote.Ref.{now}
 use Rattle.answers.specs.declared.Answer.the-variants.{Done}
-use Rattle.answers.proofs.Laws.{else-refused}
-use Rattle.fields.proofs.Lent.{test-refuses, room-refuses, all-put}
+use Rattle.answers.proofs.Done.{else-refused}
+use Rattle.answers.proofs.Lent.{test-refuses, room-refuses, all-put}
+use Rattle.map_check.proofs.Checked.{checked}
 use Rattle.patterns.specs.Format.{patternRecord}
+use Rattle.patterns.specs.Read.{checkJob}
 use Rattle.patterns.specs.Write.{patternAnswer, patternRoom}
-use Rattle.patterns.proofs.Checked.{checkJob, checked}
 use Rattle.patterns.proofs.Ways.{pattern-put}
 use borrow.Author.Needs.{needs}
 use Rattle.patterns.proofs.write_pattern.Statement.{statement}
@@ -19,7 +20,7 @@ unfolding patternAnswer patternRoom
 returns c =
     let start = c .before .before .before .before .before .args in
     let check = c .before .check-map in
-    rw (← check .ensures) (test-refuses (check .result) (patternRecord (start .job) (now (start .map))) (now (start .room)) (else-refused (check .result) (c .match .keys2)))
+    test-refuses _ _ (patternRecord (start .job) (now (start .map))) (now (start .room)) (check .result) (check .ensures) (else-refused (check .result) (c .match .keys2))
 
 -- the map passed the check
 passed : (c : tie.After-enum-told) →
@@ -32,7 +33,7 @@ unfolding patternAnswer patternRoom
 returns-2 c =
     let told = c .before .before in
     let start = told .before .before .before .before .before .before .args in
-    room-refuses (checkJob (start .job) (now (start .map))) (patternRecord (start .job) (now (start .map))) (now (start .room)) (passed told) (omega (arith, c .before .head-length .ensures)) (omega arith)
+    room-refuses _ _ (patternRecord (start .job) (now (start .map))) (now (start .room)) (passed told) (omega (arith, c .before .head-length .ensures)) (omega arith)
 
 put-head-requires : tie.Need-put-head-requires
 put-head-requires c κs = omega (arith, checked _ _ _ (passed (c .before .before .before)), c .before .before .head-length .ensures)
@@ -49,24 +50,18 @@ returns-3 c =
     let fits = head .before .before in
     let told = fits .before .before in
     let start = told .before .before .before .before .before .before .args in
-    all-put (checkJob (start .job) (now (start .map))) (patternRecord (start .job) (now (start .map))) (now (start .room)) (passed told)
-    (omega (arith, fits .before .head-length .ensures, fits .if1 .left))
+    all-put _ (patternRecord (start .job) (now (start .map))) (now (start .room)) (passed told) (omega (arith, fits .before .head-length .ensures, fits .if1 .left))
     (pattern-put (now (start .room)) (start .job) (now (start .map)) (fits .before .head-length .ensures) (head .put-head .ensures) (tag .put-tag .ensures) (bytes .put-bytes .ensures))
 
 pub write-pattern-spec : {M : Type 1} → statement M
 write-pattern-spec =
     tie.close
     (tie.spec
-    (λ c κs. search needs)
-    (λ c. search needs)
+    (λ c κs. search needs) (λ c. search needs)
     returns
-    (λ c κs. search needs)
-    (λ c. search needs)
-    (λ c. search needs)
+    (λ c κs. search needs) (λ c. search needs) (λ c. search needs)
     returns-2
     put-head-requires
     put-tag-requires
-    (λ c. search needs)
-    (λ c κs. search needs)
-    (λ c. search needs)
+    (λ c. search needs) (λ c κs. search needs) (λ c. search needs)
     returns-3)

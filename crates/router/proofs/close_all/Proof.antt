@@ -6,11 +6,10 @@ use Rattle.router.proofs.Serving.{all-hold, all-relays}
 use Rattle.router.proofs.close_all.Statement.{statement}
 use Rattle.router.proofs.close_all.Tie as tie
 
-close-cells-requires : tie.Need-close-cells-requires
-close-cells-requires c κs = (all-hold _, c .before .before .pre .0, c .before .before .pre .1)
-
-returns : tie.Need-returns
-returns c = c .before .before .close-cells .ensures ∙ ap (closeAll _) (all-relays _ _)
-
 pub close-all-spec : {M : Type 1} → statement M
-close-all-spec = tie.close (tie.spec close-cells-requires (λ c. search needs) returns)
+close-all-spec =
+    tie.close
+    (tie.spec
+    (λ c κs. (all-hold _, c .before .before .pre .0, c .before .before .pre .1))
+    (λ c. search needs)
+    (λ c. c .before .before .close-cells .ensures ∙ ap (closeAll _) (all-relays _ _)))

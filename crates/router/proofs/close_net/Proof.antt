@@ -3,18 +3,10 @@ use mathlib.Core.Path.{ap, _∙_}
 use native.Mathlib.Omega.{arith}
 use borrow.Author.Needs.{needs}
 use Rattle.wiring.specs.Map.{withClosed}
-use Rattle.router.proofs.Blocks.{type-mul, low-relay, high-relay}
+use Rattle.wiring.proofs.Relays.{type-block}
+use Rattle.router.proofs.Blocks.{low-relay, high-relay}
 use Rattle.router.proofs.close_net.Statement.{statement}
 use Rattle.router.proofs.close_net.Tie as tie
-
-mul-first : tie.Need-mul-first
-mul-first c = omega (arith, type-mul (c .before .args .kind) (c .before .args .w) (omega arith))
-
-add-close-relay : tie.Need-add-close-relay
-add-close-relay c = omega (arith, type-mul (c .before .before .before .args .kind) (c .before .before .before .args .w) (omega arith))
-
-add-close-relay-2 : tie.Need-add-close-relay-2
-add-close-relay-2 c = omega (arith, type-mul (c .before .before .before .args .kind) (c .before .before .before .args .w) (omega arith))
 
 returns : tie.Need-returns
 returns c = c .before .before .close-relay .ensures ∙ ap (withClosed _) (low-relay _ _ _ _ (c .before .before .before .before .if1 .taken))
@@ -27,14 +19,12 @@ close-net-spec =
     tie.close
     (tie.spec
     (λ c. search needs)
-    mul-first
+    (λ c. let at = c .before .args in omega (arith, type-block (at .w) 6 (at .kind) (omega arith) (omega arith)))
     (λ c. search needs)
-    add-close-relay
-    (λ c κs. search needs)
-    (λ c. search needs)
-    add-close-relay-2
-    (λ c κs. search needs)
-    (λ c. search needs)
+    (λ c. let at = c .before .before .before .args in omega (arith, type-block (at .w) 6 (at .kind) (omega arith) (omega arith)))
+    (λ c κs. search needs) (λ c. search needs)
+    (λ c. let at = c .before .before .before .args in omega (arith, type-block (at .w) 6 (at .kind) (omega arith) (omega arith)))
+    (λ c κs. search needs) (λ c. search needs)
     returns
     (λ c. search needs)
     returns-2)

@@ -14,36 +14,15 @@ Inv-loop room map i₀ i = stands room map ≡ stands (drop i room) (drop i map)
 abbrev μ-loop : tie.MeasureT-loop
 μ-loop room map i₀ i = length room - i
 
-returns : tie.Need-returns Inv-loop μ-loop
-returns c = too-long _ _ (c .if1 .taken)
-
-loop-holds : tie.Need-loop-holds Inv-loop μ-loop
-loop-holds c = refl
-
-shared-slice-read-if2 : tie.Need-shared-slice-read-if2 Inv-loop μ-loop
-shared-slice-read-if2 c = search needs
-
-should-be-requires : tie.Need-should-be-requires Inv-loop μ-loop
-should-be-requires c κs = search needs
-
 returns-2 : tie.Need-returns-2 Inv-loop μ-loop
 returns-2 c =
     turn-other _ _ _ _ _ (c .before .before .before .loop-test .taken) refl (c .before .should-be .ensures) (c .if2 .taken)
     (c .before .before .before .before .loop .inv)
 
-add-i : tie.Need-add-i Inv-loop μ-loop
-add-i c = search needs
-
-loop-less : tie.Need-loop-less Inv-loop μ-loop
-loop-less c = search needs
-
 loop-again : tie.Need-loop-again Inv-loop μ-loop
 loop-again c =
     turn-same _ _ _ _ _ (c .before .before .before .loop-test .taken) refl (c .before .should-be .ensures) (c .if2 .left)
     (c .before .before .before .before .loop .inv)
-
-returns-3 : tie.Need-returns-3 Inv-loop μ-loop
-returns-3 c = all-same _ _ _ (c .loop-test .left) (c .before .before .if1 .left) (c .before .loop .inv)
 
 pub stands-in-spec : {M : Type 1} → statement M
 stands-in-spec =
@@ -51,12 +30,9 @@ stands-in-spec =
     (tie.spec
     Inv-loop
     μ-loop
-    returns
-    loop-holds
-    shared-slice-read-if2
-    should-be-requires
+    (λ c. too-long _ _ (c .if1 .taken))
+    (λ c. refl) (λ c. search needs) (λ c κs. search needs)
     returns-2
-    add-i
-    loop-less
+    (λ c. search needs) (λ c. search needs)
     loop-again
-    returns-3)
+    (λ c. all-same _ _ _ (c .loop-test .left) (c .before .before .if1 .left) (c .before .loop .inv)))

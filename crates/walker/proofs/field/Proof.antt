@@ -14,7 +14,7 @@ use Rattle.walker.specs.declared.Walker.{Walker}
 use Rattle.walker.proofs.Walks.{URA, named, w8, w64, vint, SProp, id⊢, Lft, Share, Memory, Routine, Heap, Calls, Loops, FmC, Atoms, Fun, givenOf, tables, Typed, now, Bound, Clauses, Meets, tripleOf, cited, uint-vals, uint-tells}
 use Rattle.walker.proofs.Walks.{Given, ‵, _⊛_, _$_, _∵_, !, move, use1, split, fsplit, fjoin, nothing, whole, sub, look, init, forget, and-then, no-more, assigns, land, returns, alloc1, alloc0, params1, pass1, pass0, free1, free0}
 use Rattle.walker.proofs.Walks.{Walk, begins, here, var, part, byte, word, calls-fact, leaves, proved}
-use Rattle.walker.proofs.Holds.{Slice, Row, slice-val, walker-val, walker-vals, walker-tells, walker-typed, walker-lends}
+use Rattle.walker.proofs.Holds.{Slice, WalkerRow, slice-val, walker-val, walker-vals, walker-tells, walker-typed, walker-lends}
 use Rattle.walker.proofs.field as field
 use Rattle.walker.proofs.field.Key as key
 use Rattle.walker.proofs.field.Code as code
@@ -31,7 +31,7 @@ module _ {M : Type 1} (𝓤 : URA M) (H : Heap 𝓤) (A : Atoms 𝓤) (W : Given
   abbrev y : Bound 𝓤 H A field-at.signature
   y = ((κ, tt), (q, tt), tt, (w .bytes, (w .at, (tag, (len, tt)))), (slice-val (w .bytes) ∷ [], (vint w64 (w .at) ∷ [], (vint w8 tag ∷ [], (vint w64 len ∷ [], tt)))))
 
-  walk : FmC 𝓤 H (W .laws) C → Meets 𝓤 H A field-at.signature (C field-at-def.name) (field-at.spec 𝓤 H A mem run) → Typed (Row κ .mir) (walker-vals w) → Walk 𝓤 H A field.ended c x tt C Λ code.function
+  walk : FmC 𝓤 H (W .laws) C → Meets 𝓤 H A field-at.signature (C field-at-def.name) (field-at.spec 𝓤 H A mem run) → Typed (WalkerRow κ .mir) (walker-vals w) → Walk 𝓤 H A field.ended c x tt C Λ code.function
   walk fm known wt =
       begins 𝓤 H A field.ended c x tt W C Λ code.function ∵
       alloc1 ! (λ l₀. alloc1 ! (λ l₁. alloc1 ! (λ l₂. alloc1 ! (λ l₃. alloc1 ! (λ l₄. alloc1 ! (λ l₅. alloc0 ! $ params1 ! $
@@ -39,7 +39,7 @@ module _ {M : Type 1} (𝓤 : URA M) (H : Heap 𝓤) (A : Atoms 𝓤) (W : Given
       assigns ! (part ! 8 refl (sub ! 0 refl (whole !))) (here !) (init ! 2 refl (tt, wt .0 .1 .0)) $
       assigns ! (part ! 8 refl (sub ! 1 refl (whole !))) (here !) (init ! 0 refl (tt, wt .0 .1 .1 .0)) $
       -- [_5; …; _4; …; _3; …; _2; …; _1; …; room for _0; …; the token; what the parameters own]: w stays whole for the exit, and what its slice owns goes to the call
-      move ! (13 ∷ []) $ fsplit ! $ use1 W (‵ (Slice κ .own (w .bytes) (slice-val (w .bytes) ∷ [])) ⊛ ‵ (Row κ .own w (walker-val w ∷ []))) (walker-lends 𝓤 H A W κ w) $ split ! $
+      move ! (13 ∷ []) $ fsplit ! $ use1 W (‵ (Slice κ .own (w .bytes) (slice-val (w .bytes) ∷ [])) ⊛ ‵ (WalkerRow κ .own w (walker-val w ∷ []))) (walker-lends 𝓤 H A W κ w) $ split ! $
       nothing ! $ word ! len len-ok $ fjoin ! $ byte ! tag tag-ok $ fjoin ! $ word ! (w .at) (wt .0 .1 .1 .0 .fits) $ fjoin ! $ move ! (1 ∷ 0 ∷ []) $ fjoin ! $ move ! (1 ∷ 2 ∷ []) $ fjoin ! $ move ! (1 ∷ 14 ∷ []) $
       calls-fact ! fm field-at.ended (field-at.clauses 𝓤 H A mem run) known y tt (id⊢ 𝓤 _) (λ (r : Field). r ≡ fieldAt (now (w .bytes)) (w .at) tag len) (λ r e. id⊢ 𝓤 _)
       (and-then ! (var ! 4 refl) (and-then ! (var ! 2 refl) (and-then ! (var ! 8 refl) (and-then ! (var ! 6 refl) (no-more !))))) (λ u r e is′.

@@ -7,7 +7,7 @@ use Rattle.walker.specs.declared.Walker.{Walker}
 use Rattle.walker.proofs.Walks.{URA, named, w64, vint, SProp, id⊢, Lft, Share, Memory, Routine, Heap, Calls, Loops, FmC, Atoms, Fun, givenOf, tables, Typed, now, Bound, Clauses, Meets, tripleOf, cited, uint-lawful}
 use Rattle.walker.proofs.Walks.{Given, ‵, _⊛_, _$_, _∵_, !, move, use1, split, fsplit, fjoin, nothing, whole, sub, look, init, forget, and-then, no-more, assigns, land, returns, alloc1, alloc0, params1, pass1, pass0, free1, free0}
 use Rattle.walker.proofs.Walks.{Walk, begins, here, var, part, word, calls-fact, leaves, proved}
-use Rattle.walker.proofs.Holds.{Slice, Row, slice-val, walker-val, walker-vals, walker-tells, walker-typed, walker-lends}
+use Rattle.walker.proofs.Holds.{Slice, WalkerRow, slice-val, walker-val, walker-vals, walker-tells, walker-typed, walker-lends}
 use Rattle.walker.proofs.bytes_left as bytes-left
 use Rattle.walker.proofs.bytes_left.Symbol as bytes-left-def
 use Rattle.walker.proofs.bytes_left.Met as bytes-left-thm
@@ -27,14 +27,14 @@ module _ {M : Type 1} (𝓤 : URA M) (H : Heap 𝓤) (A : Atoms 𝓤) (W : Given
   abbrev y : Bound 𝓤 H A bytes-left.signature
   y = ((κ, tt), (q, tt), tt, (w .bytes, (w .at, tt)), (slice-val (w .bytes) ∷ [], (vint w64 (w .at) ∷ [], tt)))
 
-  walk : FmC 𝓤 H (W .laws) C → Meets 𝓤 H A bytes-left.signature (C bytes-left-def.name) (bytes-left.spec 𝓤 H A mem run) → Typed (Row κ .mir) (walker-vals w) → Walk 𝓤 H A left.ended c x tt C Λ code.function
+  walk : FmC 𝓤 H (W .laws) C → Meets 𝓤 H A bytes-left.signature (C bytes-left-def.name) (bytes-left.spec 𝓤 H A mem run) → Typed (WalkerRow κ .mir) (walker-vals w) → Walk 𝓤 H A left.ended c x tt C Λ code.function
   walk fm known wt =
       begins 𝓤 H A left.ended c x tt W C Λ code.function ∵
       alloc1 ! (λ l₀. alloc1 ! (λ l₁. alloc1 ! (λ l₂. alloc1 ! (λ l₃. alloc0 ! $ params1 ! $ pass1 ! (init ! 4 refl (wt .0)) $ pass0 ! $
       assigns ! (part ! 4 refl (sub ! 0 refl (whole !))) (here !) (init ! 2 refl (tt, wt .0 .1 .0)) $
       assigns ! (part ! 4 refl (sub ! 1 refl (whole !))) (here !) (init ! 0 refl (tt, wt .0 .1 .1 .0)) $
       -- [_3; …; _2; …; _1; …; room for _0; …; the token; what w owns]: w stays whole for the exit, and what its slice owns goes to the call
-      move ! (9 ∷ []) $ fsplit ! $ use1 W (‵ (Slice κ .own (w .bytes) (slice-val (w .bytes) ∷ [])) ⊛ ‵ (Row κ .own w (walker-val w ∷ []))) (walker-lends 𝓤 H A W κ w) $ split ! $
+      move ! (9 ∷ []) $ fsplit ! $ use1 W (‵ (Slice κ .own (w .bytes) (slice-val (w .bytes) ∷ [])) ⊛ ‵ (WalkerRow κ .own w (walker-val w ∷ []))) (walker-lends 𝓤 H A W κ w) $ split ! $
       nothing ! $ word ! (w .at) (wt .0 .1 .1 .0 .fits) $ fjoin ! $ move ! (1 ∷ 0 ∷ []) $ fjoin ! $ move ! (1 ∷ 2 ∷ []) $ fjoin ! $ move ! (1 ∷ 10 ∷ []) $
       calls-fact ! fm bytes-left.ended (bytes-left.clauses 𝓤 H A mem run) known y tt (id⊢ 𝓤 _) (λ (r : ℕ). r ≡ bytesLeft (now (w .bytes)) (w .at)) (λ r e. id⊢ 𝓤 _)
       (and-then ! (var ! 4 refl) (and-then ! (var ! 2 refl) (no-more !))) (λ u r e is′.

@@ -6,7 +6,7 @@ use Rattle.walker.specs.declared.Walker.{Walker}
 use Rattle.walker.proofs.Walks.{URA, named, w64, vint, SProp, id⊢, Lft, Share, Memory, Routine, Heap, Calls, Loops, Atoms, Fun, givenOf, tables, Typed, Bound, Clauses, uint-vals, uint-tells}
 use Rattle.walker.proofs.Walks.{Given, ‵, _⊛_, _$_, _∵_, !, move, use1, split, fsplit, fjoin, whole, sub, agg, look, init, forget, and-then, no-more, assigns, returns, alloc1, alloc0, params1, pass1, pass0, free1, free0}
 use Rattle.walker.proofs.Walks.{Walk, begins, here, var, part, leaves, proved}
-use Rattle.walker.proofs.Holds.{Slice, Row, slice-val, walker-val, walker-vals, walker-tells, walker-typed, walker-made, walker-lends}
+use Rattle.walker.proofs.Holds.{Slice, WalkerRow, slice-val, walker-val, walker-vals, walker-tells, walker-typed, walker-made, walker-lends}
 use Rattle.walker.proofs.moved as moved
 use Rattle.walker.proofs.moved.Key as key
 use Rattle.walker.proofs.moved.Code as code
@@ -22,7 +22,7 @@ module _ {M : Type 1} (𝓤 : URA M) (H : Heap 𝓤) (A : Atoms 𝓤) (W : Given
   abbrev made : Walker
   made = record { bytes = w .bytes; at = to }
 
-  walk : Typed (Row κ .mir) (walker-vals w) → Walk 𝓤 H A moved.ended c x tt C Λ code.function
+  walk : Typed (WalkerRow κ .mir) (walker-vals w) → Walk 𝓤 H A moved.ended c x tt C Λ code.function
   walk wt =
       begins 𝓤 H A moved.ended c x tt W C Λ code.function ∵
       alloc1 ! (λ l₀. alloc1 ! (λ l₁. alloc1 ! (λ l₂. alloc1 ! (λ l₃. alloc0 ! $ params1 ! $ pass1 ! (init ! 4 refl (wt .0)) $ pass1 ! (init ! 2 refl (tt, record { fits = to-ok })) $ pass0 ! $
@@ -31,8 +31,8 @@ module _ {M : Type 1} (𝓤 : URA M) (H : Heap 𝓤) (A : Atoms 𝓤) (W : Given
       returns ! (look ! 6 refl) $ forget ! 0 refl $ forget ! 2 refl $ forget ! 4 refl $ forget ! 6 refl $
       move ! (6 ∷ 7 ∷ []) $ free1 ! $ move ! (4 ∷ 5 ∷ []) $ free1 ! $ move ! (2 ∷ 3 ∷ []) $ free1 ! $ free1 ! $ free0 ! $
       -- [the token; what w and to own]: w stays whole for the exit, and what its slice owns goes into the new walker
-      move ! (1 ∷ []) $ fsplit ! $ use1 W (‵ (Slice κ .own (w .bytes) (slice-val (w .bytes) ∷ [])) ⊛ ‵ (Row κ .own w (walker-val w ∷ []))) (walker-lends 𝓤 H A W κ w) $ split ! $
-      use1 W (‵ (Row κ .own made (walker-val made ∷ []))) (walker-made 𝓤 H A W κ made to-ok) $ move ! (1 ∷ 2 ∷ []) $ fjoin ! $ move ! (1 ∷ 2 ∷ []) $
+      move ! (1 ∷ []) $ fsplit ! $ use1 W (‵ (Slice κ .own (w .bytes) (slice-val (w .bytes) ∷ [])) ⊛ ‵ (WalkerRow κ .own w (walker-val w ∷ []))) (walker-lends 𝓤 H A W κ w) $ split ! $
+      use1 W (‵ (WalkerRow κ .own made (walker-val made ∷ []))) (walker-made 𝓤 H A W κ made to-ok) $ move ! (1 ∷ 2 ∷ []) $ fjoin ! $ move ! (1 ∷ 2 ∷ []) $
       leaves 𝓤 H A moved.ended c x tt W (tt, (tt, tt)) (walker-val made) made (refl, refl) (id⊢ 𝓤 _)))))
 
 pub moved-spec : {M : Type 1} → stated.statement M

@@ -7,7 +7,7 @@ use Rattle.walker.specs.declared.Walker.{Walker}
 use Rattle.walker.proofs.Walks.{URA, SProp, id⊢, Lft, Share, Memory, Routine, Heap, Calls, Loops, Atoms, Fun, givenOf, tables, Is, RefT, Bound, Clauses}
 use Rattle.walker.proofs.Walks.{Given, ‵, _⊛_, _$_, _∵_, !, move, use1, split, fsplit, fjoin, agg, look, init, forget, lit, and-then, no-more, assigns, returns, alloc1, alloc0, params1, pass1, pass0, free1, free0}
 use Rattle.walker.proofs.Walks.{Walk, begins, here, var, leaves, proved}
-use Rattle.walker.proofs.Holds.{Slice, Row, slice-val, slice-vals, slice-tells, slice-typed, slice-twice, walker-val, walker-made}
+use Rattle.walker.proofs.Holds.{Slice, WalkerRow, slice-val, slice-vals, slice-tells, slice-typed, slice-twice, walker-val, walker-made}
 use Rattle.walker.proofs.new as new
 use Rattle.walker.proofs.new.Key as key
 use Rattle.walker.proofs.new.Code as code
@@ -31,7 +31,7 @@ module _ {M : Type 1} (𝓤 : URA M) (H : Heap 𝓤) (A : Atoms 𝓤) (W : Given
       returns ! (look ! 2 refl) $ forget ! 0 refl $ forget ! 2 refl $ move ! (2 ∷ 3 ∷ []) $ free1 ! $ free1 ! $ free0 ! $
       -- [the token; what bytes owns]: one copy for the exit, and one for the walker
       move ! (1 ∷ []) $ fsplit ! $ use1 W (‵ (Slice κ .own s (slice-val s ∷ [])) ⊛ ‵ (Slice κ .own s (slice-val s ∷ []))) (slice-twice 𝓤 H A W κ s) $ split ! $
-      use1 W (‵ (Row κ .own made (walker-val made ∷ []))) (walker-made 𝓤 H A W κ made (lit< tt)) $ move ! (1 ∷ 2 ∷ []) $ fjoin ! $ move ! (1 ∷ 2 ∷ []) $
+      use1 W (‵ (WalkerRow κ .own made (walker-val made ∷ []))) (walker-made 𝓤 H A W κ made (lit< tt)) $ move ! (1 ∷ 2 ∷ []) $ fjoin ! $ move ! (1 ∷ 2 ∷ []) $
       leaves 𝓤 H A new.ended c x tt W (tt, tt) (walker-val made) made (refl, refl) (id⊢ 𝓤 _)))
 
 pub new-spec : {M : Type 1} → stated.statement M

@@ -1,0 +1,6 @@
+pub mod Bools
+pub mod Lists
+pub mod Counting
+pub mod Tally
+pub mod Search
+pub mod Bits

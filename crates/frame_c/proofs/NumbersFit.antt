@@ -1,0 +1,69 @@
+-- Every number that comes back fits 32 bits, whatever is handed in. Assumes nothing.
+use Prim.Native.Nat.{ℕ, _<_}
+use mathlib.Core.Path.{_≡_}
+use mathlib.Core.List.{List}
+use native.Mathlib.Omega.{arith}
+use lib.Dec.{leb}
+use Rattle.answers.specs.declared.Answer.{Answer}
+use Rattle.answers.specs.declared.Answer.the-variants.{Overfull}
+use Rattle.answers.specs.Table.{sideOf, numberOf}
+use Rattle.answers.proofs.Done.{if-holds}
+use Rattle.wiring.specs.Wiring.{sideSum}
+use Rattle.wiring.specs.Frame.{four}
+use Rattle.wiring.specs.Calls.{adding, dropping}
+use Rattle.wiring.proofs.Frame.{four-sums, within-four}
+use Rattle.frame.specs.declared.Counts.{Counts}
+use Rattle.frame.specs.Leaves.{countList, mapBytes}
+use Rattle.frame.specs.Tests.{overAt, overfullTest}
+use Rattle.frame.proofs.Grounds.{asked-holds, routed-holds}
+use Rattle.router.specs.Router.{routeAnswer}
+use Rattle.map_check.proofs.Grounds.{Refusals}
+use Rattle.map_check.proofs.Checked.{closed-mild}
+use Rattle.changes.specs.Start.{openAnswer, startTest}
+use Rattle.changes.specs.Technician.{callAnswer}
+use Rattle.changes.proofs.Answers.{add-holds, drop-holds}
+
+-- the answer's number fits
+abbrev pub Fits32 : Answer → Type 0
+Fits32 a = numberOf a < 4294967296
+
+-- counts as they are handed in
+pub record Small (n : Counts) : Type 0 where
+  pub s1 : n .n1 < 65536
+  pub s2 : n .n2 < 65536
+  pub s3 : n .n3 < 65536
+  pub s4 : n .n4 < 65536
+  pub s5 : n .n5 < 65536
+  pub s6 : n .n6 < 65536
+
+-- so every side sum fits
+over-fits : (W : ℕ) (n : Counts) → Small n → Fits32 (overfullTest W (countList n))
+unfolding overfullTest
+over-fits W n h =
+    if-holds (leb (overAt W (countList n)) 4) (Overfull (sideOf (overAt W (countList n))) (sideSum four (countList n) (overAt W (countList n)))) Fits32
+    (λ e. omega (arith, within-four 196605 (countList n) (omega arith) (overAt W (countList n)))) (omega arith)
+
+pub route-fits : (W : ℕ) (n : Counts) (room : List ℕ) → W < 65536 → Small n → Fits32 (routeAnswer W n room)
+unfolding routeAnswer
+route-fits W n room h s = routed-holds Fits32 (omega arith) W (λ e. omega arith) (mapBytes W) room (λ e. omega arith) (overfullTest W (countList n)) (over-fits W n s)
+
+-- nets one by one
+pub open-fits : (W : ℕ) (room : List ℕ) → W < 65536 → Fits32 (openAnswer W room)
+unfolding openAnswer
+open-fits W room h = asked-holds Fits32 (omega arith) W (λ e. omega arith) (mapBytes W) room (λ e. omega arith)
+
+pub start-fits : (W : ℕ) (m : List ℕ) → W < 65536 → Fits32 (startTest W m)
+start-fits W m h = omega (arith, closed-mild W m h .small)
+
+small : (W : ℕ) (m : List ℕ) → W < 65536 → Refusals Fits32 W m
+small W m h = record { done = omega arith; size = λ s. omega arith; room = λ s e. omega (arith, s); spare = λ e. omega arith; shared = λ s k e. omega (arith, s, e .relay) }
+
+pub add-fits : (W : ℕ) (m : List ℕ) (c : ℕ) → W < 65536 → c < 65536 → Fits32 (callAnswer W m (adding c))
+add-fits W m c h k = add-holds Fits32 W m (small W m h) c (omega arith) (omega arith)
+
+pub drop-fits : (W : ℕ) (m : List ℕ) (k : ℕ) → W < 65536 → k < 65536 → Fits32 (callAnswer W m (dropping k))
+drop-fits W m k h l = drop-holds Fits32 W m (small W m h) k (omega arith)
+
+-- the other calls' numbers fit 16 bits
+pub word-fits : (a b : Answer) → a ≡ b → numberOf b < 65536 → Fits32 a
+word-fits a b e h = rw e (omega arith)

@@ -1,0 +1,23 @@
+-- `frame_c::records::frame_write_job` meets its contract: what `write_job` ensures, told in C's way. Assumes nothing.
+use borrow.Author.Needs.{needs}
+use Rattle.jobs.proofs.RoundTrip.{written-job-number}
+use Rattle.frame_c.proofs.NumbersFit.{word-fits}
+use Rattle.frame_c.proofs.ToldAs.{told-as}
+use Rattle.frame_c.proofs.records.frame_write_job.Statement.{statement}
+use Rattle.frame_c.proofs.records.frame_write_job.Tie as tie
+
+returns : tie.Need-returns
+returns c =
+    let written = c .before .before .before .before in
+    let e = written .write-job .ensures in
+    let n = written .before .before .six .ensures in
+    (told-as (c .tell .ensures) (rw n at (e .0)), rw n at (e .1))
+
+pub frame-write-job-spec : {M : Type 1} → statement M
+frame-write-job-spec =
+    tie.close
+    (tie.spec
+    (λ c κs. search needs) (λ c κs. search needs)
+    (λ c κs. let written = c .before .before .before in word-fits _ _ (written .write-job .ensures .0) (written-job-number _ _ (written .before .before .before .before .fits .size .fits)))
+    (λ c. search needs)
+    returns)

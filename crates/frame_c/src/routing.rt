@@ -1,0 +1,45 @@
+// Router and map check.
+ghost use mathlib.Core.Path.{_≡_};
+ghost use Rattle.frame.specs.Leaves.{counts, countList};
+ghost use Rattle.router.specs.Router.{routeAnswer, routeRoom};
+ghost use Rattle.map_check.specs.Check.{checkMap};
+ghost use Rattle.frame_c.specs.Told.{Told};
+use crate::telling::six;
+use crate::telling::tell;
+
+#[no_mangle]
+pub extern "C" fn frame_route(
+    size: u16,
+    n1: u16,
+    n2: u16,
+    n3: u16,
+    n4: u16,
+    n5: u16,
+    n6: u16,
+    room: &mut [u8],
+    number: &mut u32,
+) -> u32
+    ensures { λ r. ⌜ Told (routeAnswer size (counts n1 n2 n3 n4 n5 n6) (now (room .entry))) r (now (number .exit)) ⌝ }
+    ensures { λ _. ⌜ now (room .exit) ≡ routeRoom size (counts n1 n2 n3 n4 n5 n6) (now (room .entry)) ⌝ }
+{
+    let job = six(n1, n2, n3, n4, n5, n6);
+    tell(router::route(size, job, room), number)
+}
+
+#[no_mangle]
+pub extern "C" fn frame_check_map(
+    size: u16,
+    n1: u16,
+    n2: u16,
+    n3: u16,
+    n4: u16,
+    n5: u16,
+    n6: u16,
+    map: &[u8],
+    number: &mut u32,
+) -> u32
+    ensures { λ r. ⌜ Told (checkMap size (countList (counts n1 n2 n3 n4 n5 n6)) (now (map .entry))) r (now (number .exit)) ⌝ }
+{
+    let job = six(n1, n2, n3, n4, n5, n6);
+    tell(map_check::check_map(size, job, map), number)
+}
