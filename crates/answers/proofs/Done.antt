@@ -7,7 +7,7 @@ use native.Mathlib.Omega.{arith}
 use lib.Dec.{ltb}
 use types.Run.{OneOf, miss}
 use denote.Enum.Declared.{Choice, tagOf}
-use borrow.Author.Tests.{ne-eqb, eqb-true, eqb-false, ltb-true}
+use borrow.Author.Tests.{ne-eqb, eqb-true, ltb-true}
 use Rattle.answers.proofs.Answer.{the-type, parts, as-values, make, eta}
 use Rattle.answers.proofs.Rows.{tests, passes, each-row, otherTags}
 use Rattle.answers.specs.declared.Side.{Side}
@@ -50,9 +50,6 @@ is-done a h = rw h
 
 pub refused : (a : Answer) → 1 ≤ codeOf a → isDone a ≡ false
 refused a h = ne-eqb (codeOf a) 0 (λ e. omega arith)
-
-pub refused-code : (a : Answer) → isDone a ≡ false → 1 ≤ codeOf a
-refused-code a h = omega (arith, eqb-false (codeOf a) 0 h)
 
 pub not-done : (a : Answer) → (a ≡ Done → ⊥) → isDone a ≡ false
 not-done a f = fails (isDone a) (λ e. f (done-is a e))

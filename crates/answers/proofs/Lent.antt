@@ -11,10 +11,9 @@ use lib.Dec.{ltb}
 use borrow.Author.Tests.{ltb-false, lt-ltb, le-ltb}
 use Rattle.answers.specs.declared.Answer.{Answer}
 use Rattle.answers.specs.declared.Answer.the-variants.{Done, Room}
-use Rattle.answers.specs.Table.{numberOf}
 use Rattle.answers.specs.Lent.{isDone, andThen, roomFor, over, lentAfter}
 use Rattle.counting.proofs.Bools.{clear}
-use Rattle.answers.proofs.Done.{done-is, is-done, not-done, both-done, and-then}
+use Rattle.answers.proofs.Done.{done-is, is-done, not-done, both-done}
 
 -- room that is long enough
 pub room-is : (needed : ℕ) (room : List ℕ) → isDone (roomFor needed room) ≡ true → needed ≤ length room
@@ -69,14 +68,6 @@ module _ (test : Answer) (needed : ℕ) (bytes room : List ℕ) where
 
   pub done-fits : asked ≡ Done → (test ≡ Done) × (needed ≤ length room)
   done-fits e = let d = both-done test (roomFor needed room) (is-done _ e) in (done-is test (d .0), room-is needed room (d .1))
-
-  -- the answer's number is the test's or the length needed
-  pub number-below : (k : ℕ) → numberOf test < k → (test ≡ Done → needed < k) → numberOf asked < k
-  number-below k a b = and-then (λ x. numberOf x < k) test (roomFor needed room) a (λ d. go (ltb (length room) needed) (b d))
-    where
-      go : (c : Bool) → needed < k → numberOf (cond c (Room needed) Done) < k
-      go true h = h
-      go false h = omega arith
 
 -- bytes put at the start of the room, as the writers put them
 pub all-put : (test : Answer) (bytes room : List ℕ) {after : List ℕ} → test ≡ Done → length bytes ≤ length room → after ≡ sets room 0 bytes

@@ -1,9 +1,8 @@
 -- A number tested for its range: done where it is inside, else the refusal. Assumes nothing.
-use Prim.Native.Nat.{ℕ, _≤_, _<_}
+use Prim.Native.Nat.{ℕ, _≤_}
 use mathlib.Core.Path.{_≡_, refl}
 use mathlib.Core.Bool.{Bool, true, false, cond}
 use mathlib.Core.Logic.{_⊎_, inl, inr}
-use native.Mathlib.Omega.{arith}
 use Rattle.counting.specs.Lists.{between}
 use Rattle.counting.proofs.Bools.{clear}
 use Rattle.counting.proofs.Lists.{between-is, is-between, not-between}

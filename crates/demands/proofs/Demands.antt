@@ -2,7 +2,6 @@
 use Prim.Native.Nat.{ℕ}
 use mathlib.Core.Path.{_≡_, refl, sym, ap, _∙_}
 use mathlib.Core.List.{List}
-use lib.ListN.{replicate}
 use Rattle.counting.specs.Lists.{among}
 use Rattle.answers.specs.declared.Answer.the-variants.{Done}
 use Rattle.answers.proofs.Done.{is-done, code-done}
@@ -12,13 +11,12 @@ use Rattle.wiring.proofs.Pigeon.{carried-within}
 use Rattle.wiring.proofs.Frame.{frame-proper, pair-once}
 use Rattle.wiring.proofs.Rule.{rule-closed}
 use Rattle.frame.specs.declared.Counts.{Counts}
-use Rattle.frame.specs.Leaves.{countList, mapBytes}
+use Rattle.frame.specs.Leaves.{countList}
 use Rattle.router.specs.Route.{relaysFor, mapFor}
 use Rattle.router.specs.Router.{routeAnswer, routeRoom}
 use Rattle.router.proofs.Maps.{relays-below, relays-carry, map-is, map-carries}
 use Rattle.router.proofs.Answering.{routed, answers-done}
 use Rattle.router.proofs.Told.{route-codes, route-told, route-overfull}
-use Rattle.map_check.specs.Check.{checkMap}
 use Rattle.map_check.proofs.Meaning.{check-is, is-check}
 use Rattle.map_check.proofs.Told.{check-codes, check-told}
 use Rattle.jobs.specs.declared.Job.{Job}

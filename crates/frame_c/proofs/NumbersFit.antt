@@ -11,7 +11,7 @@ use Rattle.answers.proofs.Done.{if-holds}
 use Rattle.wiring.specs.Wiring.{sideSum}
 use Rattle.wiring.specs.Frame.{four}
 use Rattle.wiring.specs.Calls.{adding, dropping}
-use Rattle.wiring.proofs.Frame.{four-sums, within-four}
+use Rattle.wiring.proofs.Frame.{within-four}
 use Rattle.frame.specs.declared.Counts.{Counts}
 use Rattle.frame.specs.Leaves.{countList, mapBytes}
 use Rattle.frame.specs.Tests.{overAt, overfullTest}

@@ -1,6 +1,6 @@
 -- The readers' refusals case by case: what holds of each on its ground; and so their codes, and what their numbers tell. Assumes nothing.
 use Prim.Native.Nat.{ℕ, _+_, _≤_, _<_}
-use mathlib.Core.Path.{_≡_, refl, ap, _∙_}
+use mathlib.Core.Path.{_≡_, refl, _∙_}
 use mathlib.Core.List.{List, [], _∷_}
 use native.Mathlib.Omega.{arith}
 use lib.ListN.{length, getD, take}
@@ -56,6 +56,3 @@ module _ (s : List ℕ) (Whole : List ℕ → Type 0) where
       where
         four : (v : ℕ) → FieldFound s 0 1 1 v → v + 1 ≡ 4
         four v f = omega (arith, f)
-
-pub told-after : {s : List ℕ} {Whole : List ℕ → Type 0} {a : Answer} → ReadTold s Whole a → (at : ℕ) → a ≡ After at → (at < length s) × Whole (take at s)
-told-after t at e = let x = t .code10 (ap codeOf e) in (rw (ap numberOf e) at (x .1), rw (ap numberOf e) at (x .0))

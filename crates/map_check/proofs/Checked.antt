@@ -9,7 +9,6 @@ use Rattle.answers.specs.declared.Answer.{Answer}
 use Rattle.answers.specs.declared.Answer.the-variants.{Done}
 use Rattle.answers.specs.Table.{codeOf, numberOf}
 use Rattle.answers.proofs.Done.{is-done, both-done}
-use Rattle.wiring.specs.Frame.{frame}
 use Rattle.frame.specs.Leaves.{mapBytes}
 use Rattle.frame.specs.Tests.{Served, sizeTest}
 use Rattle.frame.proofs.Tests.{size-is}

@@ -14,7 +14,7 @@ use Rattle.wiring.specs.Frame.{frame}
 use Rattle.wiring.specs.Map.{closedIn}
 use Rattle.wiring.specs.Check.{spareSet, clashAt, LowestSharing, wrongType, WrongFirst}
 use Rattle.frame.specs.Leaves.{mapBytes}
-use Rattle.frame.specs.Tests.{Served, sizeTest, sumsTest}
+use Rattle.frame.specs.Tests.{Served}
 use Rattle.frame.proofs.Tests.{size-is}
 use Rattle.frame.proofs.Grounds.{size-holds}
 use Rattle.map_check.specs.Check.{formTest, sharedTest, mapTest, countsTest, closedTest, checkMap}

@@ -1,6 +1,6 @@
 -- What the map check means: it is done exactly for the maps that carry the job, and then no side sum is above the size, so that
 -- code 14 never is the answer; and what the codes 12 and 13 name. Assumes nothing.
-use Prim.Native.Nat.{ℕ, _≤_, _<_}
+use Prim.Native.Nat.{ℕ, _≤_}
 use mathlib.Core.Path.{_≡_, refl, sym}
 use mathlib.Core.Bool.{Bool, true, false, cond}
 use mathlib.Core.List.{List}

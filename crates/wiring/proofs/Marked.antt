@@ -1,6 +1,6 @@
 -- Marks over any wiring: a terminal is marked when a closed relay before k touches it, and a relay shares a terminal with one of those
 -- exactly if one of its own two is marked. So a search that keeps marks is the search that compares relays. Assumes nothing.
-use Prim.Native.Nat.{ℕ, zero, suc}
+use Prim.Native.Nat.{ℕ, suc}
 use mathlib.Core.Path.{_≡_, refl, ap, _∙_}
 use mathlib.Core.Bool.{Bool, false, _&&_, _||_, and-or-distrib-left}
 use Rattle.counting.specs.Count.{anyBelow}

@@ -1,4 +1,4 @@
--- `answers::side_of` meets its contract: what is not 1, 2 or 3 is told as the bottom. Assumes nothing.
+-- What is not 1, 2 or 3 is told as the bottom.
 use Prim.Native.Nat.{ℕ, zero, suc}
 use mathlib.Core.Path.{_≡_, refl}
 use mathlib.Core.Logic.{_≢_}

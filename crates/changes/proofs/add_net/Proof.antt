@@ -1,4 +1,4 @@
--- `changes::add_net` meets its contract: each way out of the code is an outcome of the definitions. Assumes nothing.
+-- Each way out of the code is an outcome of the definitions.
 use mathlib.Core.Path.{_≡_, sym, ap, _∙_}
 use native.Mathlib.Omega.{arith}
 use borrow.Author.Needs.{needs}

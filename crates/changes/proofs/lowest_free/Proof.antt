@@ -1,5 +1,4 @@
--- `changes::lowest_free` meets its contract. The loop's invariant: the relays of the type that were passed have a marked terminal each.
--- Assumes nothing.
+-- The loop's invariant: the relays of the type that were passed have a marked terminal each.
 use Prim.Native.Nat.{_+_, _*_, _-_, _≤_}
 use mathlib.Core.Path.{_≡_, sym, _∙_}
 use native.Mathlib.Omega.{arith}

@@ -1,4 +1,3 @@
--- `frame::test_overfull` meets its contract. Assumes nothing.
 use borrow.Author.Needs.{needs}
 use Rattle.frame.proofs.Tests.{overfull-here, overfull-nowhere}
 use Rattle.frame.proofs.test_overfull.Statement.{statement}

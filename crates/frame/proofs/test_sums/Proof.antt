@@ -1,4 +1,3 @@
--- `frame::test_sums` meets its contract. Assumes nothing.
 use borrow.Author.Needs.{needs}
 use Rattle.frame.proofs.Tests.{sums-here, sums-nowhere}
 use Rattle.frame.proofs.test_sums.Statement.{statement}

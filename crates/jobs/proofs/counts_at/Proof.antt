@@ -1,4 +1,4 @@
--- `jobs::counts_at` meets its contract: six words, each by the contract of `word_at`. Assumes nothing.
+-- Six words, each by the contract of `word_at`.
 use borrow.Author.Needs.{needs}
 use Rattle.jobs.proofs.counts_at.Statement.{statement}
 use Rattle.jobs.proofs.counts_at.Tie as tie

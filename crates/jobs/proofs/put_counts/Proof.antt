@@ -1,4 +1,4 @@
--- `jobs::put_counts` meets its contract: the tag and six words, each put where the last ended, are the field. Assumes nothing.
+-- The tag and six words, each put where the last ended, are the field.
 use Prim.Native.Nat.{ℕ}
 use mathlib.Core.List.{List, [], _∷_}
 use borrow.Author.Needs.{needs}

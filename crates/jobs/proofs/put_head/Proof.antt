@@ -1,4 +1,4 @@
--- `jobs::put_head` meets its contract: the counts are put where the size ended. Assumes nothing.
+-- The counts are put where the size ended.
 use borrow.Author.Needs.{needs}
 use denote.Ref.{now}
 use Rattle.puts.proofs.Puts.{onto}

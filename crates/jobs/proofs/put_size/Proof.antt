@@ -1,4 +1,4 @@
--- `jobs::put_size` meets its contract: the size is put where the tag ended. Assumes nothing.
+-- The size is put where the tag ended.
 use mathlib.Core.Path.{refl}
 use mathlib.Core.List.{[], _∷_}
 use borrow.Author.Needs.{needs}

@@ -1,5 +1,4 @@
--- `jobs::read_head` meets its contract: each way out is a law of the head; that a value's bytes are within the slice is `found`.
--- Assumes nothing.
+-- Each way out is a law of the head; that a value's bytes are within the slice is `found`.
 use Prim.Native.Nat.{ℕ, _+_, _≤_}
 use mathlib.Core.Path.{sym, _∙_}
 use mathlib.Core.List.{List}

@@ -1,4 +1,4 @@
--- `jobs::read_job` meets its contract: the head by its `let .. else`, then the test for bytes after it. Assumes nothing.
+-- The head by its `let .. else`, then the test for bytes after it.
 use mathlib.Core.Path.{_∙_}
 use native.Mathlib.Omega.{arith}
 use borrow.Author.Needs.{needs}

@@ -1,4 +1,4 @@
--- `jobs::write_job` meets its contract: the test and the room refuse, or the head is put at the start. Assumes nothing.
+-- The test and the room refuse, or the head is put at the start.
 use mathlib.Core.Path.{_≡_, sym, _∙_}
 use native.Mathlib.Omega.{arith}
 use denote.Ref.{now}

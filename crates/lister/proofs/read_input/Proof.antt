@@ -1,4 +1,4 @@
--- `lister::read_input` meets its contract. The loop's invariant: at most as many bytes came as the room has, and the room keeps its length. Assumes nothing.
+-- The loop's invariant: at most as many bytes came as the room has, and the room keeps its length.
 use Prim.Native.Nat.{ℕ, _+_, _-_, _≤_}
 use mathlib.Core.Path.{_≡_, _∙_}
 use mathlib.Core.List.{List}

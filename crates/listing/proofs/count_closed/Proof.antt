@@ -1,4 +1,4 @@
--- `listing::count_closed` meets its contract. The loop's invariant: the closed relays passed are counted. Assumes nothing.
+-- The loop's invariant: the closed relays passed are counted.
 use Prim.Native.Nat.{ℕ, _-_, _≤_}
 use mathlib.Core.Path.{_≡_, refl, sym, ap, _∙_}
 use mathlib.Core.Logic.{⊎-elim}

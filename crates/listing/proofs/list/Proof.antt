@@ -1,4 +1,3 @@
--- `listing::list` meets its contract. Assumes nothing.
 use native.Mathlib.Omega.{arith}
 use borrow.Author.Needs.{needs}
 use Rattle.listing.proofs.Length.{text-length}

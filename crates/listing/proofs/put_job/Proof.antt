@@ -1,4 +1,4 @@
--- `listing::put_job` meets its contract: the router refuses, or the first bytes of the room that it was lent are the map. Assumes nothing.
+-- The router refuses, or the first bytes of the room that it was lent are the map.
 use mathlib.Core.Path.{_≡_, ap}
 use native.Mathlib.Omega.{arith}
 use borrow.Author.Needs.{needs}

@@ -1,4 +1,3 @@
--- `listing::put_map` meets its contract. Assumes nothing.
 use native.Mathlib.Omega.{arith}
 use borrow.Author.Needs.{needs}
 use Rattle.text.proofs.Stores.{wrote-as, wrote-append}

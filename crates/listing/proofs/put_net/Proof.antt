@@ -1,4 +1,3 @@
--- `listing::put_net` meets its contract. Assumes nothing.
 use mathlib.Core.Path.{sym, _∙_}
 use native.Mathlib.Omega.{arith}
 use borrow.Author.Needs.{needs}
@@ -9,10 +8,10 @@ use Rattle.listing.proofs.put_net.Tie as tie
 
 -- the relay that was found
 net : (c : tie.After-earlier)
-    → IsNet (c .before .before .before .before .before .before .before .before .args .size) (c .before .before .before .before .before .before .before .before .args .relay) (c .before .before .before .before .kind .given .0 .0) (c .earlier .given .0 .0) (c .earlier .given .0 .1 .0)
+    → let sorted = c .before .before .before .before in let start = sorted .before .before .before .before .args in IsNet (start .size) (start .relay) (sorted .kind .given .0 .0) (c .earlier .given .0 .0) (c .earlier .given .0 .1 .0)
 net c =
-    is-net _ _ (c .before .before .before .before .before .before .before .before .pre .0) _ _ _ _
-    (sym (c .before .before .before .before .before .before .sort-relay .ensures) ∙ c .before .before .before .before .kind .given .1)
+    let sorted = c .before .before .before .before in
+    is-net _ _ (sorted .before .before .before .before .pre .0) _ _ _ _ (sym (sorted .before .before .sort-relay .ensures) ∙ sorted .kind .given .1)
     (sym (c .before .before .relay-terminals .ensures) ∙ c .earlier .given .1)
 
 returns : tie.Need-returns
@@ -26,10 +25,12 @@ put-byte-requires c κs = omega (arith, net (c .before .before .before .before .
 
 returns-3 : tie.Need-returns-3
 returns-3 c =
-    wrote-as (net (c .before .before .before .before .before .before .before .before .before .before .before .before .before .before .before .before .before) .line)
-    (wrote-append (c .before .before .before .before .before .before .before .before .before .before .before .before .before .before .put-decimal .ensures)
-    (wrote-append (c .before .before .before .before .before .before .before .before .before .before .put-terminal .ensures)
-    (wrote-append (c .before .before .before .before .before .before .put-terminal2 .ensures) (c .before .before .put-byte .ensures))))
+    let end = c .before .before in
+    let to = end .before .before .before .before in
+    let from = to .before .before .before .before in
+    let type = from .before .before .before .before in
+    wrote-as (net (type .before .before .before) .line)
+    (wrote-append (type .put-decimal .ensures) (wrote-append (from .put-terminal .ensures) (wrote-append (to .put-terminal2 .ensures) (end .put-byte .ensures))))
 
 pub put-net-spec : {M : Type 1} → statement M
 put-net-spec =

@@ -1,4 +1,4 @@
--- `listing::put_nets` meets its contract. The loop's invariant: the lines of the closed relays passed are written. Assumes nothing.
+-- The loop's invariant: the lines of the closed relays passed are written.
 use Prim.Native.Nat.{_*_, _-_, _≤_}
 use mathlib.Core.Path.{_≡_, sym, _∙_}
 use mathlib.Core.Logic.{⊎-elim}

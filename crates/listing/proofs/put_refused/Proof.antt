@@ -1,4 +1,3 @@
--- `listing::put_refused` meets its contract. Assumes nothing.
 use native.Mathlib.Omega.{arith}
 use borrow.Author.Needs.{needs}
 use Rattle.text.proofs.Stores.{wrote-as, wrote-append}
@@ -18,11 +17,13 @@ put-byte-requires-2 c κs = omega (arith, told (c .before .before .before .befor
 
 returns : tie.Need-returns
 returns c =
-    wrote-as (told (c .before .before .before .before .before .before .before .before .before .before .before .before .before .before .before .before .before .before .before .before .before) .line)
-    (wrote-append (c .before .before .before .before .before .before .before .before .before .before .before .before .before .before .before .before .before .before .put-bytes .ensures)
-    (wrote-append (c .before .before .before .before .before .before .before .before .before .before .before .before .before .before .put-decimal .ensures)
-    (wrote-append (c .before .before .before .before .before .before .before .before .before .before .put-byte .ensures)
-    (wrote-append (c .before .before .before .before .before .before .put-decimal2 .ensures) (c .before .before .put-byte2 .ensures)))))
+    let end = c .before .before in
+    let number = end .before .before .before .before in
+    let space = number .before .before .before .before in
+    let code = space .before .before .before .before in
+    let word = code .before .before .before .before in
+    wrote-as (told (word .before .before .before) .line) (wrote-append (word .put-bytes .ensures) (wrote-append (code .put-decimal .ensures)
+    (wrote-append (space .put-byte .ensures) (wrote-append (number .put-decimal2 .ensures) (end .put-byte2 .ensures)))))
 
 pub put-refused-spec : {M : Type 1} → statement M
 put-refused-spec =

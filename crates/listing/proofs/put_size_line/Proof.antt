@@ -1,4 +1,3 @@
--- `listing::put_size_line` meets its contract. Assumes nothing.
 use native.Mathlib.Omega.{arith}
 use borrow.Author.Needs.{needs}
 use Rattle.text.proofs.Stores.{wrote-append}
@@ -22,10 +21,13 @@ put-byte-requires c κs = let start = c .before .before .before .before .before 
 returns : tie.Need-returns
 unfolding sizeLine
 returns c =
-    wrote-append (c .before .before .before .before .before .before .before .before .before .before .before .before .before .before .before .before .before .before .before .put-bytes .ensures)
-    (wrote-append (c .before .before .before .before .before .before .before .before .before .before .before .before .before .before .before .put-decimal .ensures)
-    (wrote-append (c .before .before .before .before .before .before .before .before .before .before .put-bytes2 .ensures)
-    (wrote-append (c .before .before .before .before .before .before .put-decimal2 .ensures) (c .before .before .put-byte .ensures))))
+    let end = c .before .before in
+    let nets = end .before .before .before .before in
+    let word = nets .before .before .before .before in
+    let size = word .before .before .before .before .before in
+    let first = size .before .before .before .before in
+    wrote-append (first .put-bytes .ensures) (wrote-append (size .put-decimal .ensures)
+    (wrote-append (word .put-bytes2 .ensures) (wrote-append (nets .put-decimal2 .ensures) (end .put-byte .ensures))))
 
 pub put-size-line-spec : {M : Type 1} → statement M
 put-size-line-spec =

@@ -1,4 +1,3 @@
--- `listing::put_terminal` meets its contract. Assumes nothing.
 use native.Mathlib.Omega.{arith}
 use borrow.Author.Needs.{needs}
 use Rattle.text.proofs.Stores.{wrote-append}
@@ -16,8 +15,10 @@ put-decimal-requires c κs = let start = c .before .before .before .before .befo
 returns : tie.Need-returns
 unfolding terminalText
 returns c =
-    wrote-append (c .before .before .before .before .before .before .before .before .before .before .before .put-byte .ensures)
-    (wrote-append (rw (c .before .before .before .before .before .before .before .side-letter .ensures) at (c .before .before .before .before .before .before .put-byte2 .ensures)) (c .before .before .put-decimal .ensures))
+    let position = c .before .before in
+    let letter = position .before .before .before .before in
+    let space = letter .before .before .before .before .before in
+    wrote-append (space .put-byte .ensures) (wrote-append (rw (letter .before .side-letter .ensures) at (letter .put-byte2 .ensures)) (position .put-decimal .ensures))
 
 pub put-terminal-spec : {M : Type 1} → statement M
 put-terminal-spec =

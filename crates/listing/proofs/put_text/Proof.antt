@@ -1,4 +1,4 @@
--- `listing::put_text` meets its contract: the reader refuses, or the text is that of the job. Assumes nothing.
+-- The reader refuses, or the text is that of the job.
 use mathlib.Core.Path.{_≡_, ap}
 use native.Mathlib.Omega.{arith}
 use borrow.Author.Needs.{needs}

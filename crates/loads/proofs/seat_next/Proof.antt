@@ -1,4 +1,3 @@
--- `loads::seat_next` meets its contract. Assumes nothing.
 use borrow.Author.Needs.{needs}
 use Rattle.loads.proofs.seat_next.Statement.{statement}
 use Rattle.loads.proofs.seat_next.Tie as tie

@@ -1,4 +1,4 @@
--- `map_check::check_map` meets its contract: three tests, one after the other. Assumes nothing.
+-- Three tests, one after the other.
 use borrow.Author.Needs.{needs}
 use Rattle.answers.proofs.Done.{else-refused, by-first, by-second}
 use Rattle.map_check.specs.Check.{checkMap}

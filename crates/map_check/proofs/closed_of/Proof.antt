@@ -1,4 +1,4 @@
--- `map_check::closed_of` meets its contract. The loop's invariant: n counts the closed ones of the i relays passed. Assumes nothing.
+-- The loop's invariant: n counts the closed ones of the i relays passed.
 use Prim.Native.Nat.{_+_, _*_, _-_, _≤_}
 use mathlib.Core.Path.{_≡_, refl, sym, _∙_}
 use mathlib.Core.Logic.{⊎-elim}

@@ -1,5 +1,4 @@
--- `map_check::first_clash` meets its contract. The loop's invariant: the words are the marks of the relays passed, none of which clashes.
--- Assumes nothing.
+-- The loop's invariant: the words are the marks of the relays passed, none of which clashes.
 use Prim.Native.Nat.{ℕ, _*_, _-_, _≤_, _<_}
 use mathlib.Core.Path.{_≡_, sym, _∙_}
 use mathlib.Core.Bool.{false}

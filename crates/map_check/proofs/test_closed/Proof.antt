@@ -1,4 +1,4 @@
--- `map_check::test_closed` meets its contract: the size, then the map. Assumes nothing.
+-- The size, then the map.
 use mathlib.Core.Path.{sym, ap, _∙_}
 use borrow.Author.Needs.{needs}
 use Rattle.answers.specs.Lent.{isDone}

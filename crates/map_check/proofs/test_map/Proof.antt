@@ -1,5 +1,4 @@
--- `map_check::test_map` meets its contract: the form, then the search for a shared terminal. Assumes nothing.
-use native.Mathlib.Omega.{arith}
+-- The form, then the search for a shared terminal.
 use borrow.Author.Needs.{needs}
 use Rattle.answers.proofs.Done.{else-refused, by-first, by-second}
 use Rattle.map_check.specs.Check.{mapTest}

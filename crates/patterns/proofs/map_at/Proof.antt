@@ -1,4 +1,3 @@
--- `patterns::map_at` meets its contract. Assumes nothing.
 use mathlib.Core.Path.{_∙_}
 use native.Mathlib.Omega.{arith}
 use Rattle.answers.proofs.Done.{else-refused}

@@ -1,4 +1,3 @@
--- `patterns::no_pattern` meets its contract. Assumes nothing.
 use borrow.Author.Needs.{needs}
 use Rattle.patterns.proofs.no_pattern.Statement.{statement}
 use Rattle.patterns.proofs.no_pattern.Tie as tie

@@ -1,5 +1,4 @@
--- `patterns::read_pattern` meets its contract: the head and the map's field by their `let .. else`, then the map at its place.
--- Assumes nothing.
+-- The head and the map's field by their `let .. else`, then the map at its place.
 use Prim.Native.Nat.{_+_, _≤_}
 use mathlib.Core.Path.{sym, _∙_}
 use native.Mathlib.Omega.{arith}

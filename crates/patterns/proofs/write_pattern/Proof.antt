@@ -1,5 +1,5 @@
--- `patterns::write_pattern` meets its contract: the check and the room refuse, or the head, the map's tag and the map are put one
--- after the other. That the head fits, and that the map's length is a word, is what a map that passed tells. Assumes nothing.
+-- The check and the room refuse, or the head, the map's tag and the map are put one after the other. That the head fits, and that the map's
+-- length is a word, is what a map that passed tells.
 use mathlib.Core.Path.{_≡_, sym, _∙_}
 use native.Mathlib.Omega.{arith}
 use denote.Ref.{now}

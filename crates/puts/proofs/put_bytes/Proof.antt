@@ -1,4 +1,4 @@
--- `puts::put_bytes` meets its contract. The loop's invariant: the first i bytes are put. Assumes nothing.
+-- The loop's invariant: the first i bytes are put.
 use Prim.Native.Nat.{ℕ, _≤_, _-_}
 use mathlib.Core.List.{List}
 use mathlib.Core.Path.{_≡_, refl, ap, _∙_}

@@ -1,4 +1,4 @@
--- `router::close_all` meets its contract: no cell is left out. Assumes nothing.
+-- No cell is left out.
 use mathlib.Core.Path.{ap, _∙_}
 use borrow.Author.Needs.{needs}
 use Rattle.wiring.specs.Map.{closeAll}

@@ -1,4 +1,4 @@
--- `router::close_block` meets its contract. What is still to do: the nets from j on. Assumes nothing.
+-- What is still to do: the nets from j on.
 use Prim.Native.Nat.{_-_, _≤_}
 use mathlib.Core.Path.{_≡_, refl, ap, _∙_}
 use native.Mathlib.Omega.{arith}

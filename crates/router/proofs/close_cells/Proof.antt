@@ -1,4 +1,4 @@
--- `router::close_cells` meets its contract: a turn of the loop serves one block or passes the one left out. Assumes nothing.
+-- A turn of the loop serves one block or passes the one left out.
 use Prim.Native.Nat.{suc, _+_, _-_, _/_, _≤_, _<_}
 use mathlib.Core.Path.{_≡_, refl, ap, _∙_}
 use native.Mathlib.Omega.{arith}

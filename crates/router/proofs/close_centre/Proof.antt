@@ -1,4 +1,4 @@
--- `router::close_centre` meets its contract: one type after the other. Assumes nothing.
+-- One type after the other.
 use borrow.Author.Needs.{needs}
 use Rattle.router.proofs.Serving.{centre-chain}
 use Rattle.router.proofs.close_centre.Statement.{statement}

@@ -1,4 +1,4 @@
--- `router::route` meets its contract: each way out of the code is an outcome of the definitions. Assumes nothing.
+-- Each way out of the code is an outcome of the definitions.
 use Prim.Native.Nat.{_≤_}
 use mathlib.Core.Path.{_≡_, sym, _∙_}
 use native.Mathlib.Omega.{arith}

@@ -1,4 +1,3 @@
--- `run_examples::is` meets its contract. Assumes nothing.
 use borrow.Author.Needs.{needs}
 use Rattle.run_examples.proofs.Compare.{other-code, that-code}
 use Rattle.run_examples.proofs.is.Statement.{statement}

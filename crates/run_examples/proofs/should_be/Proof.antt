@@ -1,4 +1,3 @@
--- `run_examples::should_be` meets its contract. Assumes nothing.
 use mathlib.Core.Path.{sym}
 use denote.Ref.{now}
 use lib.ListN.{List·getD-eq-default}

@@ -1,4 +1,4 @@
--- `run_examples::stands_in` meets its contract. The loop's invariant: the comparison is that of what is still to compare. Assumes nothing.
+-- The loop's invariant: the comparison is that of what is still to compare.
 use Prim.Native.Nat.{_-_}
 use mathlib.Core.Path.{_≡_, refl}
 use lib.ListN.{length, drop}

@@ -1,4 +1,4 @@
--- `walker::field` meets its contract: a walk of its MIR, by hand. The walker is taken apart, and `fields::field_at` is called on its slice, its number, the tag and the length. Assumes nothing.
+-- A walk of its MIR, by hand. The walker is taken apart, and `fields::field_at` is called on its slice, its number, the tag and the length.
 use Prim.Native.Nat.{ℕ, _<_, _^_}
 use mathlib.Core.List.{[], _∷_}
 use mathlib.Core.Path.{_≡_, refl}

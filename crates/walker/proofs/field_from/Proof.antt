@@ -1,4 +1,4 @@
--- `walker::field_from` meets its contract: a walk of its MIR, by hand. The walker that one call returns is held in a local and passed to the next. Assumes nothing.
+-- A walk of its MIR, by hand. The walker that one call returns is held in a local and passed to the next.
 use Prim.Native.Nat.{ℕ, _<_, _^_}
 use mathlib.Core.List.{List, [], _∷_}
 use mathlib.Core.Path.{_≡_, refl, ap, _∙_}

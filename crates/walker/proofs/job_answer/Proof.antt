@@ -1,4 +1,4 @@
--- `walker::job_answer` meets its contract: it goes the ways of `jobs::read_head` and `jobs::read_job`, by their laws. Assumes nothing.
+-- It goes the ways of `jobs::read_head` and `jobs::read_job`, by their laws.
 use Prim.Native.Nat.{ℕ, _+_, _≤_}
 use mathlib.Core.Path.{_≡_, refl, sym, ap, _∙_}
 use mathlib.Core.List.{List}

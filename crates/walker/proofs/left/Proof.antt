@@ -1,4 +1,4 @@
--- `walker::left` meets its contract: a walk of its MIR, by hand. The walker is taken apart, and `bytes_left` is called on its slice and its number. Assumes nothing.
+-- A walk of its MIR, by hand. The walker is taken apart, and `bytes_left` is called on its slice and its number.
 use Prim.Native.Nat.{ℕ}
 use mathlib.Core.List.{[], _∷_}
 use mathlib.Core.Path.{_≡_, refl}

@@ -1,4 +1,4 @@
--- `walker::moved` meets its contract: a walk of its MIR, by hand. A walker is made of the slice that the one passed holds, and the number. Assumes nothing.
+-- A walk of its MIR, by hand. A walker is made of the slice that the one passed holds, and the number.
 use Prim.Native.Nat.{ℕ, _<_, _^_}
 use mathlib.Core.List.{[], _∷_}
 use mathlib.Core.Path.{refl}

@@ -1,4 +1,4 @@
--- `walker::new` meets its contract: a walk of its MIR, by hand. A walker is made of the slice passed and 0, in the result's local. Assumes nothing.
+-- A walk of its MIR, by hand. A walker is made of the slice passed and 0, in the result's local.
 use Prim.Native.Nat.{ℕ}
 use mathlib.Core.List.{List, [], _∷_}
 use mathlib.Core.Path.{refl}

@@ -1,4 +1,4 @@
--- `frame_c::records::frame_read_job` meets its contract: what `read_job` ensures, told in C's way. Assumes nothing.
+-- What `read_job` ensures, told in C's way.
 use mathlib.Core.Path.{ap}
 use borrow.Author.Needs.{needs}
 use Rattle.frame.specs.Leaves.{countList}

@@ -1,4 +1,4 @@
--- `frame_c::records::frame_write_job` meets its contract: what `write_job` ensures, told in C's way. Assumes nothing.
+-- What `write_job` ensures, told in C's way.
 use borrow.Author.Needs.{needs}
 use Rattle.jobs.proofs.RoundTrip.{written-job-number}
 use Rattle.frame_c.proofs.NumbersFit.{word-fits}

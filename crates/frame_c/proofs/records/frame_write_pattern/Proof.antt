@@ -1,4 +1,4 @@
--- `frame_c::records::frame_write_pattern` meets its contract: what `write_pattern` ensures, told in C's way. Assumes nothing.
+-- What `write_pattern` ensures, told in C's way.
 use borrow.Author.Needs.{needs}
 use Rattle.patterns.proofs.RoundTrip.{written-pattern-number}
 use Rattle.frame_c.proofs.NumbersFit.{word-fits}

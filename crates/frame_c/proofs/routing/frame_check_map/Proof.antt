@@ -1,4 +1,4 @@
--- `frame_c::routing::frame_check_map` meets its contract: what `check_map` ensures, told in C's way. Assumes nothing.
+-- What `check_map` ensures, told in C's way.
 use borrow.Author.Needs.{needs}
 use Rattle.map_check.proofs.Checked.{check-mild}
 use Rattle.frame_c.proofs.NumbersFit.{word-fits}

@@ -1,4 +1,4 @@
--- `frame_c::routing::frame_route` meets its contract: what `route` ensures of the six counts, told in C's way. Assumes nothing.
+-- What `route` ensures of the six counts, told in C's way.
 use borrow.Author.Needs.{needs}
 use Rattle.frame_c.proofs.NumbersFit.{route-fits}
 use Rattle.frame_c.proofs.ToldAs.{told-as}

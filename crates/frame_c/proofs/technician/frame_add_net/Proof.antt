@@ -1,4 +1,4 @@
--- `frame_c::technician::frame_add_net` meets its contract: what `add_net` ensures, told in C's way. Assumes nothing.
+-- What `add_net` ensures, told in C's way.
 use mathlib.Core.Path.{_≡_, ap, _∙_}
 use borrow.Author.Needs.{needs}
 use Rattle.wiring.specs.Calls.{adding}

@@ -1,4 +1,4 @@
--- `frame_c::technician::frame_check_start` meets its contract: what `test_start` ensures, told in C's way. Assumes nothing.
+-- What `test_start` ensures, told in C's way.
 use borrow.Author.Needs.{needs}
 use Rattle.frame_c.proofs.NumbersFit.{start-fits}
 use Rattle.frame_c.proofs.ToldAs.{told-as}

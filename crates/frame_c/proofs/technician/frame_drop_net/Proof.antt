@@ -1,4 +1,4 @@
--- `frame_c::technician::frame_drop_net` meets its contract: what `drop_net` ensures, told in C's way. Assumes nothing.
+-- What `drop_net` ensures, told in C's way.
 use borrow.Author.Needs.{needs}
 use Rattle.frame_c.proofs.NumbersFit.{drop-fits}
 use Rattle.frame_c.proofs.ToldAs.{told-as}

@@ -1,4 +1,4 @@
--- `frame_c::technician::frame_open_all` meets its contract: what `open_frame` ensures, told in C's way. Assumes nothing.
+-- What `open_frame` ensures, told in C's way.
 use borrow.Author.Needs.{needs}
 use Rattle.frame_c.proofs.NumbersFit.{open-fits}
 use Rattle.frame_c.proofs.ToldAs.{told-as}
