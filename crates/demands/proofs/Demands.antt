@@ -32,6 +32,7 @@ use Rattle.patterns.specs.Write.{patternAnswer, patternRoom}
 use Rattle.patterns.proofs.RoundTrip.{pattern-is-written, written-pattern-reads-back, pattern-rewritten, pattern-written-again, refused-pattern, accepted-part}
 use Rattle.patterns.proofs.RoundTrip.{pattern-codes, pattern-told, map-told, written-pattern-codes, written-pattern-first, written-pattern-told}
 use Rattle.listing.specs.Listing.{textOf}
+use Rattle.listing.proofs.Texts.{list-codes}
 use Rattle.listing.proofs.Ends.{nets-listed}
 use Rattle.demands.specs.Demands.{Pattern, Demand1, Demand2, Demand3}
 use Rattle.demands.proofs.Parts.{no-map, part-bytes}
@@ -47,6 +48,7 @@ demand-1 = record {
   read-pattern-codes = pattern-codes;
   write-job-codes = written-job-codes;
   write-pattern-codes = written-pattern-codes;
+  list-codes = list-codes;
   route-told = route-told;
   overfull-told = route-overfull;
   write-job-told = written-job-told;
@@ -103,7 +105,7 @@ demand-2 = record {
       let c = check-is _ _ _ (part-bytes s (readPattern s) b) (is-done _ (a .passes)) in
       (c .served, c .map, c .carries);
   pattern-part = accepted-part;
-  listed = λ s e f. rw (is-done _ e) (nets-listed (readJob s .job) (is-done _ f) .text);
+  lines = λ s e f. rw (is-done _ e) (nets-listed (readJob s .job) (is-done _ f) .text);
 }
 
 -- every public contract is an equation with a definition of what was handed in: two outcomes that it allows are equal

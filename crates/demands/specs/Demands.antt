@@ -36,7 +36,7 @@ use Rattle.patterns.specs.Part.{mapPart}
 use Rattle.patterns.specs.Write.{patternAnswer, patternRoom}
 use Rattle.patterns.specs.Told.{WholePattern, MapRefused}
 use Rattle.listing.specs.Lines.{total, sizeLine, netLines}
-use Rattle.listing.specs.Listing.{textOf}
+use Rattle.listing.specs.Listing.{textOf, listed}
 
 -- a pattern: a job of a size that is served, and a map of that size that carries it
 abbrev pub Pattern : Job → List ℕ → Type 0
@@ -54,6 +54,7 @@ pub record Demand1 : Type 0 where
   pub read-pattern-codes : (s : List ℕ) → CodeIn (0 ∷ 1 ∷ 7 ∷ 8 ∷ 9 ∷ 10 ∷ 11 ∷ 12 ∷ 13 ∷ []) (readPattern s .answer)
   pub write-job-codes : (j : Job) (room : List ℕ) → CodeIn (0 ∷ 1 ∷ 2 ∷ []) (jobAnswer j room)
   pub write-pattern-codes : (j : Job) (map room : List ℕ) → CodeIn (0 ∷ 1 ∷ 2 ∷ 11 ∷ 12 ∷ 13 ∷ []) (patternAnswer j map room)
+  pub list-codes : (s room : List ℕ) → CodeIn (0 ∷ 2 ∷ []) (listed s room .answer)
   -- and the number is the table's: the size, the length needed, the first overfull side's own sum ..
   pub route-told : (W : ℕ) (n : Counts) (room : List ℕ) → RoomTold W (mapBytes W) room (routeAnswer W n room)
   pub overfull-told : (W : ℕ) (n : Counts) (room : List ℕ) (side : Side) (sum : ℕ) → routeAnswer W n room ≡ Overfull side sum
@@ -118,7 +119,7 @@ pub record Demand2 : Type 0 where
   pub pattern-part : (s : List ℕ) → readPattern s .answer ≡ Done
       → let read = readPattern s in (read .start + read .len ≤ length s) × (mapPart s read ≡ part s (read .start) (read .len))
   -- the lister's first line has the size and the number of the job's nets, and then a line comes for each closed relay of that map
-  pub listed : (s : List ℕ) → readJob s .answer ≡ Done → let job = readJob s .job in
+  pub lines : (s : List ℕ) → readJob s .answer ≡ Done → let job = readJob s .job in
       routeAnswer (job .size) (job .counts) (replicate 48 0) ≡ Done
       → let W = job .size in textOf s ≡ sizeLine W (total (job .counts)) ++ netLines W (mapFor W (job .counts)) (frame W .relays)
 

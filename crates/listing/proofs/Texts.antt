@@ -2,7 +2,7 @@
 use Prim.Native.Nat.{ℕ, _+_, _≤_, _<_}
 use mathlib.Core.Path.{_≡_, refl, ap, _∙_}
 use mathlib.Core.Bool.{Bool, true, false, cond}
-use mathlib.Core.List.{List, _++_}
+use mathlib.Core.List.{List, [], _∷_, _++_}
 use native.Mathlib.Omega.{arith}
 use lib.Dec.{ltb}
 use lib.ListN.{length, take, drop, replicate, length-append}
@@ -11,7 +11,9 @@ use borrow.Author.Tests.{ltb-false, lt-ltb, le-ltb}
 use Rattle.answers.specs.declared.Answer.{Answer}
 use Rattle.answers.specs.declared.Answer.the-variants.{Done, Room}
 use Rattle.answers.specs.Lent.{isDone}
-use Rattle.answers.proofs.Done.{is-done}
+use Rattle.answers.specs.Table.{CodeIn}
+use Rattle.answers.proofs.Done.{is-done, if-holds}
+use Rattle.counting.specs.Lists.{among}
 use Rattle.frame.specs.Leaves.{mapBytes}
 use Rattle.jobs.specs.declared.Job.{Job}
 use Rattle.jobs.specs.declared.JobRead.{JobRead}
@@ -71,6 +73,11 @@ module _ (s room : List ℕ) where
       let z : 0 + length (textOf s) ≡ length (textOf s) = omega arith in
       let e : m ≡ textOf s ++ drop (length (textOf s)) room = rw z at (w .room ∙ sets-eq (textOf s) room 0 (omega (arith, text-length s))) in
       simp (le-ltb (length room) 3857 h, w .after, z) (refl, e)
+
+  -- the codes that it can give
+  pub list-codes : CodeIn (0 ∷ 2 ∷ []) (listed s room .answer)
+  unfolding listed among
+  list-codes = if-holds (ltb (length room) mostText) (Room mostText) (CodeIn (0 ∷ 2 ∷ [])) (λ e. refl) refl
 
   -- the length that comes back lies within the room
   pub list-within : (r : Listed) → r ≡ listed s room → r .len ≤ length room

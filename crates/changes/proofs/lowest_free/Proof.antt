@@ -29,7 +29,9 @@ returns : tie.Need-returns Inv-loop μ-loop
 returns c =
     let at-loop = c .before .before .before in
     let start = at-loop .before .before .before in
-    free-here _ _ _ _ (start .pre .0) (start .pre .1) (start .pre .2) (at-loop .before .marks-of .ensures) _ (at-loop .loop .inv .0) (c .before .before .loop-test .taken) (at-loop .loop .inv .2) (sym (c .before .relay-marked .ensures) ∙ not-true _ (c .if1 .taken))
+    let inv = at-loop .loop .inv in
+    free-here _ _ _ _ (start .pre .0) (start .pre .1) (start .pre .2) (at-loop .before .marks-of .ensures) _ (inv .0) (c .before .before .loop-test .taken) (inv .2)
+    (sym (c .before .relay-marked .ensures) ∙ not-true _ (c .if1 .taken))
 
 add-k : tie.Need-add-k Inv-loop μ-loop
 add-k c =

@@ -18,10 +18,13 @@ abbrev μ-loop : tie.MeasureT-loop
 μ-loop room₀ at size map relays next₀ relay₀ room next relay = relays - relay
 
 put-net-requires : tie.Need-put-net-requires Inv-loop μ-loop
-put-net-requires c κs = (
-  omega arith,
-  omega (arith, wrote-length (c .before .before .before .before .loop .inv .1), nets-room (c .before .before .before .before .before .before .before .args .size) (c .before .before .before .before .loop .relay) (6 * c .before .before .before .before .before .before .before .args .size) (c .before .before .before .before .before .before .before .args .map .now) (omega arith) (sym (c .before .before .is-closed .ensures) ∙ c .before .if1 .taken)),
-)
+put-net-requires c κs =
+    let at-loop = c .before .before .before .before in
+    let start = at-loop .before .before .before .args in
+    let closed = sym (c .before .before .is-closed .ensures) ∙ c .before .if1 .taken in (
+      omega arith,
+      omega (arith, wrote-length (at-loop .loop .inv .1), nets-room (start .size) (at-loop .loop .relay) (6 * start .size) (start .map .now) (omega arith) closed),
+    )
 
 loop-again : tie.Need-loop-again Inv-loop μ-loop
 loop-again c =

@@ -24,7 +24,10 @@ abbrev μ-loop : tie.MeasureT-loop
 returns : tie.Need-returns Inv-loop μ-loop
 returns c =
     let at-loop = c .before .before .before .before .before in
-    clash-here _ (frame-worded _ (at-loop .before .before .pre)) _ _ _ (at-loop .loop .inv .0) (at-loop .loop .inv .1) (c .before .before .before .before .loop-test .taken) (sym (c .before .before .before .is-closed .ensures) ∙ c .before .before .if1 .taken) (sym (c .before .relay-marked .ensures) ∙ c .if2 .taken)
+    let inv = at-loop .loop .inv in
+    let closed = sym (c .before .before .before .is-closed .ensures) ∙ c .before .before .if1 .taken in
+    clash-here _ (frame-worded _ (at-loop .before .before .pre)) _ _ _ (inv .0) (inv .1) (c .before .before .before .before .loop-test .taken) closed
+    (sym (c .before .relay-marked .ensures) ∙ c .if2 .taken)
 
 loop-again : tie.Need-loop-again Inv-loop μ-loop
 loop-again c =
