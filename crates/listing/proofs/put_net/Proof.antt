@@ -18,7 +18,9 @@ returns : tie.Need-returns
 returns c = absurd (some-relay _ _ (c .before .before .before .before .pre .0) (sym (c .before .before .sort-relay .ensures) ∙ c .enum-told .given .1))
 
 returns-2 : tie.Need-returns-2
-returns-2 c = absurd (some-terminals _ _ (c .before .before .before .before .before .before .before .before .pre .0) (sym (c .before .before .relay-terminals .ensures) ∙ c .enum-told2 .given .1))
+returns-2 c =
+    let sorted = c .before .before .before .before in
+    absurd (some-terminals _ _ (sorted .before .before .before .before .pre .0) (sym (c .before .before .relay-terminals .ensures) ∙ c .enum-told2 .given .1))
 
 put-byte-requires : tie.Need-put-byte-requires
 put-byte-requires c κs = omega (arith, net (c .before .before .before .before .before .before .before .before .before .before .before .before .before .before))

@@ -10,10 +10,19 @@ told : (c : tie.After-number) → IsRefused (c .before .before .before .args .a)
 told c = is-refused _ _ _ (c .before .code .ensures) (c .number .ensures)
 
 put-decimal-requires-2 : tie.Need-put-decimal-requires-2
-put-decimal-requires-2 c κs = omega (arith, told (c .before .before .before .before .before .before .before .before .before .before .before .before .before .before))
+put-decimal-requires-2 c κs =
+    let space = c .before .before .before in
+    let code = space .before .before .before .before in
+    let word = code .before .before .before .before in
+    omega (arith, told (word .before .before .before))
 
 put-byte-requires-2 : tie.Need-put-byte-requires-2
-put-byte-requires-2 c κs = omega (arith, told (c .before .before .before .before .before .before .before .before .before .before .before .before .before .before .before .before .before .before))
+put-byte-requires-2 c κs =
+    let number = c .before .before .before in
+    let space = number .before .before .before .before in
+    let code = space .before .before .before .before in
+    let word = code .before .before .before .before in
+    omega (arith, told (word .before .before .before))
 
 returns : tie.Need-returns
 returns c =
@@ -32,7 +41,7 @@ put-refused-spec =
     (λ c κs. search needs) (λ c. search needs) (λ c κs. search needs) (λ c. search needs)
     (λ c κs. omega (arith, told (c .before .before)))
     (λ c κs. omega (arith, told (c .before .before .before .before .before .before)))
-    (λ c κs. omega (arith, told (c .before .before .before .before .before .before .before .before .before .before)))
+    (λ c κs. let code = c .before .before .before in let word = code .before .before .before .before in omega (arith, told (word .before .before .before)))
     put-decimal-requires-2
     put-byte-requires-2
     (λ c. search needs)

@@ -10,13 +10,28 @@ put-decimal-requires : tie.Need-put-decimal-requires
 put-decimal-requires c κs = let start = c .before .before .before .before .before .before .before .args in omega (arith, size-length (start .size) (start .nets))
 
 put-bytes-requires-2 : tie.Need-put-bytes-requires-2
-put-bytes-requires-2 c κs = let start = c .before .before .before .before .before .before .before .before .before .before .before .before .args in omega (arith, size-length (start .size) (start .nets))
+put-bytes-requires-2 c κs =
+    let size = c .before .before .before .before in
+    let first = size .before .before .before .before in
+    let start = first .before .before .before .before .args in
+    omega (arith, size-length (start .size) (start .nets))
 
 put-decimal-requires-2 : tie.Need-put-decimal-requires-2
-put-decimal-requires-2 c κs = let start = c .before .before .before .before .before .before .before .before .before .before .before .before .before .before .before .before .args in omega (arith, size-length (start .size) (start .nets))
+put-decimal-requires-2 c κs =
+    let word = c .before .before .before in
+    let size = word .before .before .before .before .before in
+    let first = size .before .before .before .before in
+    let start = first .before .before .before .before .args in
+    omega (arith, size-length (start .size) (start .nets))
 
 put-byte-requires : tie.Need-put-byte-requires
-put-byte-requires c κs = let start = c .before .before .before .before .before .before .before .before .before .before .before .before .before .before .before .before .before .before .before .before .args in omega (arith, size-length (start .size) (start .nets))
+put-byte-requires c κs =
+    let nets = c .before .before .before in
+    let word = nets .before .before .before .before in
+    let size = word .before .before .before .before .before in
+    let first = size .before .before .before .before in
+    let start = first .before .before .before .before .args in
+    omega (arith, size-length (start .size) (start .nets))
 
 returns : tie.Need-returns
 unfolding sizeLine

@@ -10,7 +10,10 @@ put-byte-requires-2 : tie.Need-put-byte-requires-2
 put-byte-requires-2 c κs = let start = c .before .before .before .before .before .before .before .args in omega (arith, terminal-length (start .t .side) (start .t .position))
 
 put-decimal-requires : tie.Need-put-decimal-requires
-put-decimal-requires c κs = let start = c .before .before .before .before .before .before .before .before .before .before .before .args in omega (arith, terminal-length (start .t .side) (start .t .position))
+put-decimal-requires c κs =
+    let letter = c .before .before .before .before in
+    let start = letter .before .before .before .before .before .before .before .args in
+    omega (arith, terminal-length (start .t .side) (start .t .position))
 
 returns : tie.Need-returns
 unfolding terminalText
