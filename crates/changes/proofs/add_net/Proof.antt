@@ -13,10 +13,12 @@ use Rattle.changes.proofs.add_net.Statement.{statement}
 use Rattle.changes.proofs.add_net.Tie as tie
 
 -- past the start's tests, and past the type's
-started : (c : tie.After-enum-told) → startTest (c .before .before .before .before .before .args .size) (c .before .before .before .before .before .args .map .now) ≡ Done
+started : (c : tie.After-enum-told)
+    → let start = c .before .before .before .before .before in startTest (start .args .size) (start .args .map .now) ≡ Done
 started c = sym (c .before .before .test-start .ensures) ∙ c .enum-told .given .1
 
-typed : (c : tie.After-enum-told2) → typeTest (c .before .before .before .before .before .before .before .before .args .kind) ≡ Done
+typed : (c : tie.After-enum-told2)
+    → let start = c .before .before .before .before .before .before .before .before in typeTest (start .args .kind) ≡ Done
 typed c = sym (c .before .before .test-type .ensures) ∙ c .enum-told2 .given .1
 
 returns-2 : tie.Need-returns-2

@@ -30,10 +30,10 @@ told : (c : tie.After-known-told Inv-loop μ-loop) → c .before .more .given .0
 told c = rw (c .before .more .given .1) at (c .before .before .before .before .before .read-once .ensures)
 
 same-length : tie.Need-same-length Inv-loop μ-loop
-same-length c = read (c .before .before .before .before) .whole ∙ c .before .before .before .before .before .before .before .loop .inv .1
+same-length c = let once = c .before .before .before .before in read once .whole ∙ once .before .before .before .loop .inv .1
 
 same-length-2 : tie.Need-same-length-2 Inv-loop μ-loop
-same-length-2 c = read (c .before .before .before .before .before .before) .whole ∙ c .before .before .before .before .before .before .before .before .before .loop .inv .1
+same-length-2 c = let once = c .before .before .before .before .before .before in read once .whole ∙ once .before .before .before .loop .inv .1
 
 pub read-input-spec : {M : Type 1} → statement M
 read-input-spec =

@@ -10,7 +10,10 @@ counted : (c : tie.After-count-closed) → IsMapText (c .before .before .before 
 counted c = is-map-text _ _ _ (c .count-closed .ensures)
 
 returns : tie.Need-returns
-returns c = wrote-as (counted (c .before .before .before .before .before .before .before) .text) (wrote-append (c .before .before .before .before .before .before .put-size-line .ensures) (c .before .before .put-nets .ensures))
+returns c =
+    let nets = c .before .before in
+    let size = nets .before .before .before .before in
+    wrote-as (counted (size .before) .text) (wrote-append (size .put-size-line .ensures) (nets .put-nets .ensures))
 
 pub put-map-spec : {M : Type 1} → statement M
 put-map-spec =

@@ -52,15 +52,21 @@ module _ (t : ℕ) where
   add-put-byte-2 c = omega arith
 
   put-byte-requires-2 : put-decimal-lts.Need-put-byte-requires-2 (calls t) (put-decimal-at t) put-decimal.Post
-  put-byte-requires-2 c κs = omega (arith, wrote-length (c .before .before .before .put-decimal .ensures), decimal-tenth (c .before .before .before .before .before .before .before .args .n) (omega arith) (omega arith))
+  put-byte-requires-2 c κs =
+      let tenth = c .before .before .before in
+      omega (arith, wrote-length (tenth .put-decimal .ensures), decimal-tenth (tenth .before .before .before .before .args .n) (omega arith) (omega arith))
 
   same-length-2 : put-decimal-lts.Need-same-length-2 (calls t) (put-decimal-at t) put-decimal.Post
-  same-length-2 c = wrote-length (c .before .before .put-byte2 .ensures) ∙ wrote-length (c .before .before .before .before .before .before .put-decimal .ensures)
+  same-length-2 c =
+      let digit = c .before .before in
+      wrote-length (digit .put-byte2 .ensures) ∙ wrote-length (digit .before .before .before .before .put-decimal .ensures)
 
   returns-2 : put-decimal-lts.Need-returns-2 (calls t) (put-decimal-at t) put-decimal.Post
   returns-2 c =
-      rw (decimal-more (c .before .before .before .before .before .before .before .before .before .before .args .n) (omega arith) (omega arith))
-      (wrote-append (c .before .before .before .before .before .before .put-decimal .ensures) (c .before .before .put-byte2 .ensures))
+      let digit = c .before .before in
+      let tenth = digit .before .before .before .before in
+      rw (decimal-more (tenth .before .before .before .before .args .n) (omega arith) (omega arith))
+      (wrote-append (tenth .put-decimal .ensures) (digit .put-byte2 .ensures))
 
 pub +put-decimal-spec : {M : Type 1} → statement M
 +put-decimal-spec =
