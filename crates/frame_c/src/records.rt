@@ -7,7 +7,6 @@ ghost use Rattle.patterns.specs.Read.{readPattern};
 ghost use Rattle.patterns.specs.Write.{patternAnswer, patternRoom};
 ghost use Rattle.frame_c.specs.Told.{Told};
 ghost use Rattle.frame_c.specs.Job.{jobOf};
-use crate::telling::six;
 use crate::telling::tell;
 use jobs::Job;
 
@@ -46,7 +45,7 @@ pub extern "C" fn frame_write_job(
     ensures { λ r. ⌜ Told (jobAnswer (jobOf size n1 n2 n3 n4 n5 n6) (now (room .entry))) r (now (number .exit)) ⌝ }
     ensures { λ _. ⌜ now (room .exit) ≡ jobRoom (jobOf size n1 n2 n3 n4 n5 n6) (now (room .entry)) ⌝ }
 {
-    let counts = six(n1, n2, n3, n4, n5, n6);
+    let counts = frame::six(n1, n2, n3, n4, n5, n6);
     tell(jobs::write_job(room, Job { size, counts }), number)
 }
 
@@ -92,7 +91,7 @@ pub extern "C" fn frame_write_pattern(
     ensures { λ r. ⌜ Told (patternAnswer (jobOf size n1 n2 n3 n4 n5 n6) (now (map .entry)) (now (room .entry))) r (now (number .exit)) ⌝ }
     ensures { λ _. ⌜ now (room .exit) ≡ patternRoom (jobOf size n1 n2 n3 n4 n5 n6) (now (map .entry)) (now (room .entry)) ⌝ }
 {
-    let counts = six(n1, n2, n3, n4, n5, n6);
+    let counts = frame::six(n1, n2, n3, n4, n5, n6);
     tell(
         patterns::write_pattern(room, Job { size, counts }, map),
         number,

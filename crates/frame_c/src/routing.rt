@@ -4,7 +4,6 @@ ghost use Rattle.frame.specs.Leaves.{counts, countList};
 ghost use Rattle.router.specs.Router.{routeAnswer, routeRoom};
 ghost use Rattle.map_check.specs.Check.{checkMap};
 ghost use Rattle.frame_c.specs.Told.{Told};
-use crate::telling::six;
 use crate::telling::tell;
 
 #[no_mangle]
@@ -22,7 +21,7 @@ pub extern "C" fn frame_route(
     ensures { λ r. ⌜ Told (routeAnswer size (counts n1 n2 n3 n4 n5 n6) (now (room .entry))) r (now (number .exit)) ⌝ }
     ensures { λ _. ⌜ now (room .exit) ≡ routeRoom size (counts n1 n2 n3 n4 n5 n6) (now (room .entry)) ⌝ }
 {
-    let job = six(n1, n2, n3, n4, n5, n6);
+    let job = frame::six(n1, n2, n3, n4, n5, n6);
     tell(router::route(size, job, room), number)
 }
 
@@ -40,6 +39,6 @@ pub extern "C" fn frame_check_map(
 ) -> u32
     ensures { λ r. ⌜ Told (checkMap size (countList (counts n1 n2 n3 n4 n5 n6)) (now (map .entry))) r (now (number .exit)) ⌝ }
 {
-    let job = six(n1, n2, n3, n4, n5, n6);
+    let job = frame::six(n1, n2, n3, n4, n5, n6);
     tell(map_check::check_map(size, job, map), number)
 }

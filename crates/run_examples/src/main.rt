@@ -246,28 +246,17 @@ fn drops(tally: Tally, map: &mut [u8], relay: u16, code: u32, number: u64, left:
     counted(tally, right)
 }
 
-fn counts(n1: u16, n2: u16, n3: u16, n4: u16, n5: u16, n6: u16) -> Counts {
-    Counts {
-        n1,
-        n2,
-        n3,
-        n4,
-        n5,
-        n6,
-    }
-}
-
 // The scope's table, sizes 1 to 3.
 fn small_sizes(before: Tally) -> Tally {
     let mut tally = before;
-    tally = routed(tally, 1, counts(1, 1, 0, 0, 0, 0), b"\x03");
-    tally = refused(tally, 1, counts(1, 0, 1, 0, 0, 0), 3, 2);
-    tally = routed(tally, 2, counts(0, 0, 0, 0, 0, 0), b"\x00\x00");
-    tally = routed(tally, 2, counts(1, 0, 1, 1, 0, 0), b"\xA1\x00");
-    tally = routed(tally, 2, counts(1, 1, 1, 0, 1, 0), b"\x29\x01");
-    tally = routed(tally, 2, counts(0, 0, 1, 1, 1, 1), b"\x50\x09");
-    tally = refused(tally, 2, counts(0, 2, 0, 1, 0, 0), 4, 3);
-    routed(tally, 3, counts(2, 1, 1, 1, 0, 0), b"\x13\x09\x00")
+    tally = routed(tally, 1, frame::six(1, 1, 0, 0, 0, 0), b"\x03");
+    tally = refused(tally, 1, frame::six(1, 0, 1, 0, 0, 0), 3, 2);
+    tally = routed(tally, 2, frame::six(0, 0, 0, 0, 0, 0), b"\x00\x00");
+    tally = routed(tally, 2, frame::six(1, 0, 1, 1, 0, 0), b"\xA1\x00");
+    tally = routed(tally, 2, frame::six(1, 1, 1, 0, 1, 0), b"\x29\x01");
+    tally = routed(tally, 2, frame::six(0, 0, 1, 1, 1, 1), b"\x50\x09");
+    tally = refused(tally, 2, frame::six(0, 2, 0, 1, 0, 0), 4, 3);
+    routed(tally, 3, frame::six(2, 1, 1, 1, 0, 0), b"\x13\x09\x00")
 }
 
 // The scope's table, sizes 64, 0 and 65.
@@ -277,10 +266,16 @@ fn other_sizes(before: Tally) -> Tally {
     let straight = b"\xFF\xFF\xFF\xFF\xFF\xFF\xFF\xFF\xFF\xFF\xFF\xFF\xFF\xFF\xFF\xFF\
         \x00\x00\x00\x00\x00\x00\x00\x00\x00\x00\x00\x00\x00\x00\x00\x00\
         \x00\x00\x00\x00\x00\x00\x00\x00\x00\x00\x00\x00\x00\x00\x00\x00";
-    tally = routed(tally, 64, counts(64, 64, 0, 0, 0, 0), straight);
-    tally = refused(tally, 64, counts(65535, 0, 65535, 0, 0, 65535), 3, 196605);
-    tally = refused(tally, 0, counts(0, 0, 0, 0, 0, 0), 1, 0);
-    refused(tally, 65, counts(0, 0, 0, 0, 0, 0), 1, 65)
+    tally = routed(tally, 64, frame::six(64, 64, 0, 0, 0, 0), straight);
+    tally = refused(
+        tally,
+        64,
+        frame::six(65535, 0, 65535, 0, 0, 65535),
+        3,
+        196605,
+    );
+    tally = refused(tally, 0, frame::six(0, 0, 0, 0, 0, 0), 1, 0);
+    refused(tally, 65, frame::six(0, 0, 0, 0, 0, 0), 1, 65)
 }
 
 // The scope's router with one byte of room, and its map checks.
@@ -291,26 +286,26 @@ fn below_the_table(before: Tally) -> Tally {
         tally,
         b"route into one byte",
         2,
-        counts(9, 9, 9, 9, 9, 9),
+        frame::six(9, 9, 9, 9, 9, 9),
         &mut byte,
         2,
         2,
     );
-    tally = faulty(tally, 2, counts(1, 0, 1, 0, 0, 0), b"\x11\x00", 12, 4);
-    tally = faulty(tally, 2, counts(0, 1, 0, 0, 0, 0), b"\x01\x00", 13, 1);
-    faulty(tally, 2, counts(0, 0, 0, 0, 0, 0), b"\x00\x10", 11, 0)
+    tally = faulty(tally, 2, frame::six(1, 0, 1, 0, 0, 0), b"\x11\x00", 12, 4);
+    tally = faulty(tally, 2, frame::six(0, 1, 0, 0, 0, 0), b"\x01\x00", 13, 1);
+    faulty(tally, 2, frame::six(0, 0, 0, 0, 0, 0), b"\x00\x10", 11, 0)
 }
 
 // The vectors of document 000's Table I, in its order.
 fn table_one(before: Tally) -> Tally {
     let mut tally = before;
-    tally = carried(tally, counts(1, 1, 1, 0, 1, 0));
-    tally = carried(tally, counts(1, 1, 0, 1, 0, 1));
-    tally = carried(tally, counts(1, 0, 1, 1, 0, 0));
-    tally = carried(tally, counts(1, 0, 0, 0, 1, 1));
-    tally = carried(tally, counts(0, 1, 1, 0, 0, 1));
-    tally = carried(tally, counts(0, 1, 0, 1, 1, 0));
-    carried(tally, counts(0, 0, 1, 1, 1, 1))
+    tally = carried(tally, frame::six(1, 1, 1, 0, 1, 0));
+    tally = carried(tally, frame::six(1, 1, 0, 1, 0, 1));
+    tally = carried(tally, frame::six(1, 0, 1, 1, 0, 0));
+    tally = carried(tally, frame::six(1, 0, 0, 0, 1, 1));
+    tally = carried(tally, frame::six(0, 1, 1, 0, 0, 1));
+    tally = carried(tally, frame::six(0, 1, 0, 1, 1, 0));
+    carried(tally, frame::six(0, 0, 1, 1, 1, 1))
 }
 
 // The requests' item 4, from an open frame: with relays 0 and 2 closed type 3 has none; what is freed serves again.
