@@ -32,7 +32,7 @@ use Rattle.patterns.specs.Write.{patternAnswer, patternRoom}
 use Rattle.patterns.proofs.RoundTrip.{pattern-is-written, written-pattern-reads-back, pattern-rewritten, pattern-written-again, refused-pattern, accepted-part}
 use Rattle.patterns.proofs.RoundTrip.{pattern-codes, pattern-told, map-told, written-pattern-codes, written-pattern-first, written-pattern-told}
 use Rattle.listing.specs.Listing.{textOf}
-use Rattle.listing.proofs.Texts.{list-codes}
+use Rattle.listing.proofs.Texts.{list-codes, list-told, list-refused}
 use Rattle.listing.proofs.Ends.{nets-listed}
 use Rattle.demands.specs.Demands.{Pattern, Demand1, Demand2, Demand3}
 use Rattle.demands.proofs.Parts.{no-map, part-bytes}
@@ -52,6 +52,7 @@ demand-1 = record {
   route-told = route-told;
   overfull-told = route-overfull;
   write-job-told = written-job-told;
+  list-told = list-told;
   check-told = check-told;
   write-pattern-first = written-pattern-first;
   write-pattern-told = written-pattern-told;
@@ -61,6 +62,7 @@ demand-1 = record {
   router-refuses = λ W n room f. room-stays (routeAnswer W n room) (mapFor W n) room f;
   job-writer-refuses = λ j room f. room-stays (jobAnswer j room) (jobRecord j) room f;
   pattern-writer-refuses = λ j map room f. room-stays (patternAnswer j map room) (patternRecord j map) room f;
+  lister-refuses = list-refused;
   job-reader-refuses = λ s f. ap (λ (r : JobRead). r .job) (refused-job s f);
   pattern-reader-refuses = λ s f.
       let e = refused-pattern s f in

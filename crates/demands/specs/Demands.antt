@@ -36,7 +36,7 @@ use Rattle.patterns.specs.Part.{mapPart}
 use Rattle.patterns.specs.Write.{patternAnswer, patternRoom}
 use Rattle.patterns.specs.Told.{WholePattern, MapRefused}
 use Rattle.listing.specs.Lines.{total, sizeLine, netLines}
-use Rattle.listing.specs.Listing.{textOf, listed}
+use Rattle.listing.specs.Listing.{textOf, mostText, listed, listedRoom}
 
 -- a pattern: a job of a size that is served, and a map of that size that carries it
 abbrev pub Pattern : Job → List ℕ → Type 0
@@ -60,6 +60,8 @@ pub record Demand1 : Type 0 where
   pub overfull-told : (W : ℕ) (n : Counts) (room : List ℕ) (side : Side) (sum : ℕ) → routeAnswer W n room ≡ Overfull side sum
       → SideTold W (countList n) side sum
   pub write-job-told : (j : Job) (room : List ℕ) → RoomTold (j .size) (length (jobRecord j)) room (jobAnswer j room)
+  pub list-told : (s room : List ℕ) → codeOf (listed s room .answer) ≡ 2
+      → (numberOf (listed s room .answer) ≡ mostText) × (length room < mostText)
   -- .. the relay and the type that the map check names; the pattern writer makes the map check first, and then asks for its record's length
   pub check-told : (W : ℕ) (n m : List ℕ) → MapTold W n m (checkMap W n m)
   pub write-pattern-first : (j : Job) (map room : List ℕ) → (checkJob j map ≡ Done → ⊥) → patternAnswer j map room ≡ checkJob j map
@@ -70,10 +72,11 @@ pub record Demand1 : Type 0 where
   pub read-job-told : (s : List ℕ) → Bytes s → ReadTold s WholeJob (readJob s .answer)
   pub read-pattern-told : (s : List ℕ) → Bytes s → ReadTold s WholePattern (readPattern s .answer)
   pub read-pattern-map : (s : List ℕ) → Bytes s → 11 ≤ codeOf (readPattern s .answer) → MapRefused s (readPattern s .answer)
-  -- a refusal leaves lent room as it came, and gives no job and no map
+  -- a refusal leaves lent room as it came, and gives no job, no map and no text
   pub router-refuses : (W : ℕ) (n : Counts) (room : List ℕ) → (routeAnswer W n room ≡ Done → ⊥) → routeRoom W n room ≡ room
   pub job-writer-refuses : (j : Job) (room : List ℕ) → (jobAnswer j room ≡ Done → ⊥) → jobRoom j room ≡ room
   pub pattern-writer-refuses : (j : Job) (map room : List ℕ) → (patternAnswer j map room ≡ Done → ⊥) → patternRoom j map room ≡ room
+  pub lister-refuses : (s room : List ℕ) → (listed s room .answer ≡ Done → ⊥) → (listedRoom s room ≡ room) × (listed s room .len ≡ 0)
   pub job-reader-refuses : (s : List ℕ) → (readJob s .answer ≡ Done → ⊥) → readJob s .job ≡ emptyJob
   pub pattern-reader-refuses : (s : List ℕ) → (readPattern s .answer ≡ Done → ⊥)
       → (readPattern s .job ≡ emptyJob) × (mapPart s (readPattern s) ≡ [])

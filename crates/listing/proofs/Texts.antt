@@ -7,12 +7,12 @@ use native.Mathlib.Omega.{arith}
 use lib.Dec.{ltb}
 use lib.ListN.{length, take, drop, replicate, length-append}
 use lib.Seq.{sets-eq, take-at}
-use borrow.Author.Tests.{ltb-false, lt-ltb, le-ltb}
+use borrow.Author.Tests.{ltb-true, ltb-false, lt-ltb, le-ltb}
 use Rattle.answers.specs.declared.Answer.{Answer}
 use Rattle.answers.specs.declared.Answer.the-variants.{Done, Room}
-use Rattle.answers.specs.Lent.{isDone}
-use Rattle.answers.specs.Table.{CodeIn}
-use Rattle.answers.proofs.Done.{is-done, if-holds}
+use Rattle.answers.specs.Lent.{isDone, roomFor}
+use Rattle.answers.specs.Table.{codeOf, numberOf, CodeIn}
+use Rattle.answers.proofs.Done.{is-done, not-done, if-holds}
 use Rattle.counting.specs.Lists.{among}
 use Rattle.frame.specs.Leaves.{mapBytes}
 use Rattle.jobs.specs.declared.Job.{Job}
@@ -78,6 +78,18 @@ module _ (s room : List ℕ) where
   pub list-codes : CodeIn (0 ∷ 2 ∷ []) (listed s room .answer)
   unfolding listed among
   list-codes = if-holds (ltb (length room) mostText) (Room mostText) (CodeIn (0 ∷ 2 ∷ [])) (λ e. refl) refl
+
+  -- the number of code 2 is the length needed
+  pub list-told : codeOf (listed s room .answer) ≡ 2 → (numberOf (listed s room .answer) ≡ mostText) × (length room < mostText)
+  unfolding listed
+  list-told =
+      if-holds (ltb (length room) mostText) (Room mostText) (λ a. codeOf a ≡ 2 → (numberOf a ≡ mostText) × (length room < mostText))
+      (λ e x. (refl, ltb-true (length room) mostText e)) (λ x. absurd (omega arith))
+
+  -- a refusal leaves the room as it came, and gives no text
+  pub list-refused : (listed s room .answer ≡ Done → ⊥) → (listedRoom s room ≡ room) × (listed s room .len ≡ 0)
+  unfolding listed listedRoom
+  list-refused f = let d = not-done (roomFor mostText room) f in (rw d, rw d)
 
   -- the length that comes back lies within the room
   pub list-within : (r : Listed) → r ≡ listed s room → r .len ≤ length room
