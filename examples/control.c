@@ -10,22 +10,9 @@
 
 #include "frame.h"
 
-static const char *meaning(uint32_t code)
-{
-    switch (code) {
-    case FRAME_SIZE: return "the size is not 1 to 64";
-    case FRAME_ROOM: return "the room is too short; bytes needed";
-    case FRAME_OVERFULL_L: return "too many nets on the left bank";
-    case FRAME_OVERFULL_T: return "too many nets on the top bank";
-    case FRAME_OVERFULL_R: return "too many nets on the right bank";
-    case FRAME_OVERFULL_B: return "too many nets on the bottom bank";
-    default: return "see the table of codes";
-    }
-}
-
 static void refuse(const char *step, uint32_t code, uint32_t number)
 {
-    fprintf(stderr, "control: %s refused: code %u, number %u (%s)\n", step, code, number, meaning(code));
+    fprintf(stderr, "control: %s refused: code %u, number %u (%s)\n", step, code, number, frame_code_text(code));
     exit(1);
 }
 
@@ -59,7 +46,7 @@ int main(int argc, char **argv)
         refuse("the router", code, number);
     }
     /* the router's map always passes; a map from elsewhere is checked the same way before it is closed */
-    size_t bytes = (6 * (size_t)n[0] + 7) / 8;
+    size_t bytes = FRAME_MAP_BYTES(n[0]);
     code = frame_check_map(n[0], n[1], n[2], n[3], n[4], n[5], n[6], map, bytes, &number);
     if (code != FRAME_DONE) {
         refuse("the map check", code, number);

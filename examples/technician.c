@@ -21,13 +21,7 @@ struct bench {
 
 static void explain(FILE *to, uint32_t code, uint32_t number)
 {
-    switch (code) {
-    case FRAME_SHARED: fprintf(to, "relay %u shares a terminal with a lower one\n", number); break;
-    case FRAME_TYPE: fprintf(to, "%u is not a type from 1 to 6\n", number); break;
-    case FRAME_NONE_FREE: fprintf(to, "no relay of type %u is free\n", number); break;
-    case FRAME_NOT_CLOSED: fprintf(to, "relay %u is not closed\n", number); break;
-    default: fprintf(to, "code %u, number %u, see the table of codes\n", code, number); break;
-    }
+    fprintf(to, "%s (code %u, number %u)\n", frame_code_text(code), code, number);
 }
 
 static void must_be_done(const char *step, uint32_t code, uint32_t number)
@@ -47,13 +41,16 @@ static void print_map(const struct bench *b)
     putchar(' ');
 }
 
-/* A relay at position p of its type joins p on the earlier side with size + 1 - p on the later side. */
+/* As the lister names them: the side's letter and the position. */
 static void print_terminals(const struct bench *b, uint16_t relay, const char *between)
 {
-    static const char *const sides[6] = {"LR", "TB", "LT", "TR", "RB", "LB"};
-    const char *side = sides[relay / b->size];
-    unsigned p = relay % b->size + 1u;
-    printf("%c%u%s%c%u", side[0], p, between, side[1], b->size + 1u - p);
+    static const char letters[] = "?LTRB";
+    struct frame_terminal earlier, later;
+    uint16_t type;
+    uint32_t number;
+    uint32_t code = frame_relay_terminals(b->size, relay, &type, &earlier, &later, &number);
+    must_be_done("the relay", code, number);
+    printf("%c%u%s%c%u", letters[earlier.side], earlier.position, between, letters[later.side], later.position);
 }
 
 static void print_added(const struct bench *b, uint16_t type, uint16_t relay)
@@ -119,7 +116,7 @@ static void drop(struct bench *b, uint16_t relay)
 int main(void)
 {
     static const uint16_t job[6] = {1, 3, 2, 1, 1, 2};
-    struct bench b = {.size = SIZE, .bytes = (6 * SIZE + 7) / 8};
+    struct bench b = {.size = SIZE, .bytes = FRAME_MAP_BYTES(SIZE)};
     start(&b, job);
     uint16_t one_more = add(&b, GAUGE_TO_COUNTER);
     /* gauges and targets are free, but no relay joins two of them: the others would have to be opened */

@@ -31,6 +31,7 @@ pub fn map_bytes(w: usize) -> usize {
     (6 * w).div_ceil(8)
 }
 
+/// A terminal by its side's index, 0 to 3, and its position, 1 to W.
 #[derive(Clone, Copy, Debug, PartialEq, Eq)]
 pub struct Terminal {
     pub side: usize,
@@ -75,6 +76,18 @@ impl Relay {
         let others = other.terminals(w);
         self.terminals(w).iter().any(|t| others.contains(t))
     }
+}
+
+/// The relay of this number and its terminals, for any size and any number.
+/// Code 20 for a number that no relay has.
+pub fn relay_terminals(size: u16, number: u16) -> Result<(Relay, [Terminal; 2]), Refusal> {
+    let w = served(size)?;
+    let k = usize::from(number);
+    if k >= 6 * w {
+        return refuse(20, k);
+    }
+    let relay = Relay::from_number(k, w);
+    Ok((relay, relay.terminals(w)))
 }
 
 pub fn is_set(map: &[u8], k: usize) -> bool {

@@ -22,11 +22,6 @@ struct given {
     uint16_t relay;
 };
 
-static size_t map_bytes(uint16_t w)
-{
-    return (6 * (size_t)w + 7) / 8;
-}
-
 static struct lent holding(uint16_t w, int value, size_t len)
 {
     struct lent l = {w, len, {0}};
@@ -105,13 +100,13 @@ static void open_all(struct lent *l, struct given want)
     uint32_t number = 0xFFFFFFFF;
     uint32_t code = frame_open_all(l->w, l->space + GUARD, l->len, &number);
     CHECK(code == want.code && number == want.number, "size %u, room %zu: code %u, number %u and not %u, %u", l->w, l->len, code, number, want.code, want.number);
-    memset(after.space + GUARD, 0, want.code == FRAME_DONE ? map_bytes(l->w) : 0);
+    memset(after.space + GUARD, 0, want.code == FRAME_DONE ? FRAME_MAP_BYTES(l->w) : 0);
     CHECK(memcmp(after.space, l->space, sizeof after.space) == 0, "size %u, room %zu, code %u: other bytes than those of the map changed", l->w, l->len, code);
 }
 
 static struct lent opened(uint16_t w)
 {
-    struct lent l = holding(w, FILL, map_bytes(w));
+    struct lent l = holding(w, FILL, FRAME_MAP_BYTES(w));
     open_all(&l, done(0));
     return l;
 }

@@ -45,8 +45,8 @@ static void sequence_by_hand(void)
     add(&l, 1, done(0)), holds(&l, 0x21, 0x01);
     drop(&l, 9, refused(FRAME_NOT_CLOSED, 9)), holds(&l, 0x21, 0x01);
     drop(&l, 12, refused(FRAME_NOT_CLOSED, 12)), holds(&l, 0x21, 0x01);
-    add(&l, 7, refused(FRAME_TYPE, 7)), holds(&l, 0x21, 0x01);
-    add(&l, 257, refused(FRAME_TYPE, 257)), holds(&l, 0x21, 0x01);
+    add(&l, 7, refused(FRAME_WRONG_TYPE, 7)), holds(&l, 0x21, 0x01);
+    add(&l, 257, refused(FRAME_WRONG_TYPE, 257)), holds(&l, 0x21, 0x01);
     add(&l, 2, done(3)), holds(&l, 0x29, 0x01);
     check_start(&l, done(FRAME_NO_RELAY));
 }
@@ -81,12 +81,12 @@ static struct given plain_start(const struct lent *l)
 {
     for (unsigned k = 6u * l->w; k < 8 * l->len; k++) {
         if (closed(l, k)) {
-            return refused(FRAME_SPARE, 0);
+            return refused(FRAME_SPARE_BIT, 0);
         }
     }
     for (unsigned k = 0; k < 6u * l->w; k++) {
         if (closed(l, k) && taken(l, k, k)) {
-            return refused(FRAME_SHARED, k);
+            return refused(FRAME_SHARED_TERMINAL, k);
         }
     }
     return done(FRAME_NO_RELAY);
@@ -95,7 +95,7 @@ static struct given plain_start(const struct lent *l)
 static struct given plain_add(const struct lent *l, unsigned type)
 {
     if (type < 1 || type > 6) {
-        return refused(FRAME_TYPE, type);
+        return refused(FRAME_WRONG_TYPE, type);
     }
     for (unsigned k = (type - 1) * l->w; k < type * l->w; k++) {
         if (!taken(l, k, 6u * l->w)) {
@@ -113,7 +113,7 @@ static struct given plain_drop(const struct lent *l, unsigned relay)
 /* Every map of sizes 1 and 2, spare bits and shared terminals too, with every type 0 to 7 and every relay 0 to 16. */
 static void every_map(uint16_t w)
 {
-    size_t m = map_bytes(w);
+    size_t m = FRAME_MAP_BYTES(w);
     for (unsigned bits = 0; bits < 1u << (8 * m); bits++) {
         struct lent map = holding(w, 0, m), l;
         map.space[GUARD] = (uint8_t)bits;
@@ -143,7 +143,8 @@ static void hours(uint16_t w, unsigned calls)
         if (i % 3) {
             add(&l, any % 8, plain_add(&l, any % 8));
         } else {
-            drop(&l, any % (6 * w + 8), plain_drop(&l, any % (6 * w + 8)));
+            uint16_t relay = (uint16_t)(any % (6u * w + 8));
+            drop(&l, relay, plain_drop(&l, relay));
         }
         check_start(&l, done(FRAME_NO_RELAY));
     }
@@ -170,21 +171,21 @@ static void every_type(uint16_t w)
             drop(&l, k, done(k));
         }
     }
-    CHECK(memcmp(l.space, holding(w, 0, map_bytes(w)).space, sizeof l.space) == 0, "size %u: all dropped, and the frame is not open", w);
+    CHECK(memcmp(l.space, holding(w, 0, FRAME_MAP_BYTES(w)).space, sizeof l.space) == 0, "size %u: all dropped, and the frame is not open", w);
 }
 
 /* Every size and length: a start that is refused comes before the type and the relay, which would be refused too. */
 static void every_length(uint16_t w, size_t len)
 {
     struct lent room = holding(w, FILL, len), map = holding(w, 0, len);
-    size_t m = map_bytes(w);
+    size_t m = FRAME_MAP_BYTES(w);
     int served = w >= 1 && w <= 64;
-    struct given start = !served ? refused(FRAME_SIZE, w) : len != m ? refused(FRAME_ROOM, m) : done(FRAME_NO_RELAY);
+    struct given start = !served ? refused(FRAME_WRONG_SIZE, w) : len != m ? refused(FRAME_WRONG_ROOM, m) : done(FRAME_NO_RELAY);
     uint16_t past = (uint16_t)(6 * w);
     open_all(&room, served && len > m ? done(0) : start);
     check_start(&map, start);
-    add(&map, 0, start.code ? start : refused(FRAME_TYPE, 0));
-    add(&map, 65535, start.code ? start : refused(FRAME_TYPE, 65535));
+    add(&map, 0, start.code ? start : refused(FRAME_WRONG_TYPE, 0));
+    add(&map, 65535, start.code ? start : refused(FRAME_WRONG_TYPE, 65535));
     drop(&map, past, start.code ? start : refused(FRAME_NOT_CLOSED, past));
     add(&map, 6, start.code ? start : done(5u * w));
 }
@@ -194,8 +195,8 @@ static void odd_lengths(uint16_t w)
 {
     static uint8_t zeros[65536 + SPACE];
     static const uint8_t open[sizeof zeros];
-    const size_t m = map_bytes(w), lens[3] = {0, m + 256, m + 65536};
-    uint32_t code = w >= 1 && w <= 64 ? FRAME_ROOM : FRAME_SIZE, want = code == FRAME_SIZE ? w : (uint32_t)m, number = 7;
+    const size_t m = FRAME_MAP_BYTES(w), lens[3] = {0, m + 256, m + 65536};
+    uint32_t code = w >= 1 && w <= 64 ? FRAME_WRONG_ROOM : FRAME_WRONG_SIZE, want = code == FRAME_WRONG_SIZE ? w : (uint32_t)m, number = 7;
     CHECK(frame_open_all(w, NULL, 0, &number) == code && number == want, "size %u: number %u", w, number);
     for (int i = 0; i < 3; i++) {
         uint8_t *map = i ? zeros : NULL;

@@ -19,9 +19,9 @@ static void gives(uint16_t w, const uint16_t n[6], const uint8_t *map, size_t le
 
 static void bench_examples(void)
 {
-    gives(2, (const uint16_t[]){1, 0, 1, 0, 0, 0}, (const uint8_t[]){0x11, 0x00}, 2, FRAME_SHARED, 4);
-    gives(2, (const uint16_t[]){0, 1, 0, 0, 0, 0}, (const uint8_t[]){0x01, 0x00}, 2, FRAME_COUNT, 1);
-    gives(2, (const uint16_t[]){0, 0, 0, 0, 0, 0}, (const uint8_t[]){0x00, 0x10}, 2, FRAME_SPARE, 0);
+    gives(2, (const uint16_t[]){1, 0, 1, 0, 0, 0}, (const uint8_t[]){0x11, 0x00}, 2, FRAME_SHARED_TERMINAL, 4);
+    gives(2, (const uint16_t[]){0, 1, 0, 0, 0, 0}, (const uint8_t[]){0x01, 0x00}, 2, FRAME_WRONG_COUNT, 1);
+    gives(2, (const uint16_t[]){0, 0, 0, 0, 0, 0}, (const uint8_t[]){0x00, 0x10}, 2, FRAME_SPARE_BIT, 0);
     gives(2, (const uint16_t[]){1, 0, 1, 1, 0, 0}, (const uint8_t[]){0xA1, 0x00}, 2, FRAME_DONE, 0);
 }
 
@@ -37,7 +37,7 @@ static uint32_t plain(unsigned w, const uint16_t n[6], unsigned bits, uint32_t *
     }
     *number = 0;
     if (bits >> (6 * w)) {
-        return FRAME_SPARE;
+        return FRAME_SPARE_BIT;
     }
     for (unsigned k = 0; k < 6 * w; k++) {
         for (unsigned j = 0; j < k; j++) {
@@ -45,7 +45,7 @@ static uint32_t plain(unsigned w, const uint16_t n[6], unsigned bits, uint32_t *
             int share = ends[j][0] == ends[k][0] || ends[j][0] == ends[k][1] || ends[j][1] == ends[k][0] || ends[j][1] == ends[k][1];
             if (both && share) {
                 *number = k;
-                return FRAME_SHARED;
+                return FRAME_SHARED_TERMINAL;
             }
         }
     }
@@ -56,7 +56,7 @@ static uint32_t plain(unsigned w, const uint16_t n[6], unsigned bits, uint32_t *
         }
         if (closed != n[c]) {
             *number = c + 1;
-            return FRAME_COUNT;
+            return FRAME_WRONG_COUNT;
         }
     }
     return FRAME_DONE;
@@ -67,7 +67,7 @@ static void every_map(void)
 {
     for (unsigned w = 1; w <= 2; w++) {
         unsigned base = w + 1, jobs = 1;
-        size_t m = (6 * w + 7) / 8;
+        size_t m = FRAME_MAP_BYTES(w);
         for (int c = 0; c < 6; c++) {
             jobs *= base;
         }
@@ -93,18 +93,18 @@ static void lengths(void)
     static const uint16_t none[6] = {0};
     uint8_t map[64] = {0};
     for (uint16_t w = 0; w <= 66; w++) {
-        size_t m = (6 * (size_t)w + 7) / 8;
+        size_t m = FRAME_MAP_BYTES(w);
         int served = w >= 1 && w <= 64;
         for (size_t len = 0; len <= sizeof map; len++) {
             if (!served) {
-                gives(w, none, map, len, FRAME_SIZE, w);
+                gives(w, none, map, len, FRAME_WRONG_SIZE, w);
             } else if (len == m) {
                 gives(w, none, map, len, FRAME_DONE, 0);
             } else {
-                gives(w, none, map, len, FRAME_ROOM, (uint32_t)m);
+                gives(w, none, map, len, FRAME_WRONG_ROOM, (uint32_t)m);
             }
         }
-        gives(w, none, NULL, 0, served ? FRAME_ROOM : FRAME_SIZE, served ? (uint32_t)m : w);
+        gives(w, none, NULL, 0, served ? FRAME_WRONG_ROOM : FRAME_WRONG_SIZE, served ? (uint32_t)m : w);
     }
 }
 

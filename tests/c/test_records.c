@@ -21,18 +21,18 @@ static struct read refusal(uint32_t code, size_t number)
 static uint32_t field(const uint8_t *s, size_t len, size_t at, uint8_t tag, size_t want)
 {
     if (at >= len) {
-        return FRAME_CUT;
+        return FRAME_RECORD_CUT;
     }
     if (s[at] != tag) {
-        return FRAME_TAG;
+        return FRAME_WRONG_TAG;
     }
     if (len - at < 3) {
-        return FRAME_CUT;
+        return FRAME_RECORD_CUT;
     }
     if ((size_t)s[at + 1] * 256 + s[at + 2] != want) {
-        return FRAME_LENGTH;
+        return FRAME_WRONG_LENGTH;
     }
-    return len - at - 3 < want ? FRAME_CUT : FRAME_DONE;
+    return len - at - 3 < want ? FRAME_RECORD_CUT : FRAME_DONE;
 }
 
 /* A plain reading, from the scope; the map check is the library's, which has a test of its own. */
@@ -43,7 +43,7 @@ static struct read plain(const uint8_t *s, size_t len, int pattern)
         return refusal(r.code, 0);
     }
     if (s[3] < 1 || s[3] > 64) {
-        return refusal(FRAME_SIZE, s[3]);
+        return refusal(FRAME_WRONG_SIZE, s[3]);
     }
     r.size = s[3];
     r.code = field(s, len, 4, 2, 12);
@@ -55,16 +55,16 @@ static struct read plain(const uint8_t *s, size_t len, int pattern)
     }
     size_t end = 19;
     if (pattern) {
-        r.len = (6 * (size_t)r.size + 7) / 8;
+        r.len = FRAME_MAP_BYTES(r.size);
         r.code = field(s, len, 19, 3, r.len);
         if (r.code) {
             return refusal(r.code, 19);
         }
         r.at = 22;
-        end = 22 + r.len;
+        end = FRAME_PATTERN_BYTES(r.size);
     }
     if (len > end) {
-        return refusal(FRAME_AFTER, end);
+        return refusal(FRAME_BYTES_AFTER, end);
     }
     if (pattern) {
         uint32_t number;
@@ -137,17 +137,17 @@ static void written(uint16_t w, const uint16_t n[6])
 {
     uint8_t map[FRAME_MOST_MAP], space[GUARD + SPACE + GUARD];
     uint32_t number;
-    size_t m = (6 * (size_t)w + 7) / 8;
+    size_t m = FRAME_MAP_BYTES(w);
     CHECK(frame_route(w, n[0], n[1], n[2], n[3], n[4], n[5], map, sizeof map, &number) == FRAME_DONE, "size %u", w);
     for (int pattern = 0; pattern < 2; pattern++) {
-        size_t needed = pattern ? 22 + m : FRAME_JOB_RECORD;
+        size_t needed = pattern ? FRAME_PATTERN_BYTES(w) : FRAME_JOB_RECORD;
         for (size_t room = 0; room <= SPACE; room++) {
             memset(space, FILL, sizeof space);
             uint32_t code = pattern
                 ? frame_write_pattern(w, n[0], n[1], n[2], n[3], n[4], n[5], map, m, space + GUARD, room, &number)
                 : frame_write_job(w, n[0], n[1], n[2], n[3], n[4], n[5], space + GUARD, room, &number);
             size_t len = room < needed ? 0 : needed;
-            CHECK(code == (len ? FRAME_DONE : FRAME_ROOM) && number == (len ? 0 : needed), "size %u, room %zu: code %u, number %u", w, room, code, number);
+            CHECK(code == (len ? FRAME_DONE : FRAME_WRONG_ROOM) && number == (len ? 0 : needed), "size %u, room %zu: code %u, number %u", w, room, code, number);
             for (size_t i = 0; i < sizeof space; i++) {
                 CHECK((i >= GUARD && i < GUARD + len) || space[i] == FILL, "size %u, room %zu: byte %zd changed", w, room, (ptrdiff_t)i - GUARD);
             }
@@ -187,11 +187,11 @@ static void refusals(void)
 {
     uint8_t room[SPACE] = {0};
     uint32_t number;
-    CHECK(frame_write_job(0, 0, 0, 0, 0, 0, 0, room, SPACE, &number) == FRAME_SIZE && number == 0, "number %u", number);
-    CHECK(frame_write_job(65, 0, 0, 0, 0, 0, 0, room, 0, &number) == FRAME_SIZE && number == 65, "number %u", number);
+    CHECK(frame_write_job(0, 0, 0, 0, 0, 0, 0, room, SPACE, &number) == FRAME_WRONG_SIZE && number == 0, "number %u", number);
+    CHECK(frame_write_job(65, 0, 0, 0, 0, 0, 0, room, 0, &number) == FRAME_WRONG_SIZE && number == 65, "number %u", number);
     CHECK(frame_write_job(1, 65535, 65535, 65535, 65535, 65535, 65535, room, 19, &number) == FRAME_DONE, "number %u", number);
-    CHECK(frame_write_pattern(2, 1, 0, 1, 0, 0, 0, (const uint8_t[]){0x11, 0x00}, 2, room, 0, &number) == FRAME_SHARED && number == 4, "number %u", number);
-    CHECK(frame_write_pattern(2, 1, 0, 1, 0, 0, 0, (const uint8_t[]){0x11}, 1, room, SPACE, &number) == FRAME_ROOM && number == 2, "number %u", number);
+    CHECK(frame_write_pattern(2, 1, 0, 1, 0, 0, 0, (const uint8_t[]){0x11, 0x00}, 2, room, 0, &number) == FRAME_SHARED_TERMINAL && number == 4, "number %u", number);
+    CHECK(frame_write_pattern(2, 1, 0, 1, 0, 0, 0, (const uint8_t[]){0x11}, 1, room, SPACE, &number) == FRAME_WRONG_ROOM && number == 2, "number %u", number);
 }
 
 int main(void)

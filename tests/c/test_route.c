@@ -16,11 +16,6 @@ static uint32_t route(const struct job *j, uint8_t *room, size_t room_len, uint3
     return frame_route(j->size, j->n[0], j->n[1], j->n[2], j->n[3], j->n[4], j->n[5], room, room_len, number);
 }
 
-static size_t map_bytes(uint16_t size)
-{
-    return (6 * (size_t)size + 7) / 8;
-}
-
 /* Routes into a room between guard bytes; nothing but the first m bytes on done may change. */
 static uint32_t route_guarded(const struct job *j, size_t room_len, uint8_t *map, uint32_t *number)
 {
@@ -29,7 +24,7 @@ static uint32_t route_guarded(const struct job *j, size_t room_len, uint8_t *map
     memset(space, FILL, sizeof space);
     *number = 0xFFFFFFFF;
     uint32_t code = route(j, space + GUARD, room_len, number);
-    size_t written = code == FRAME_DONE ? map_bytes(j->size) : 0;
+    size_t written = code == FRAME_DONE ? FRAME_MAP_BYTES(j->size) : 0;
     for (size_t i = 0; i < sizeof space; i++) {
         if (i < GUARD || i >= GUARD + written) {
             CHECK(space[i] == FILL, "size %u, code %u: byte %zd changed", j->size, code, (ptrdiff_t)i - GUARD);
@@ -43,14 +38,14 @@ static void routes_to(struct job j, const uint8_t *map)
 {
     uint8_t got[FRAME_MOST_MAP];
     uint32_t number;
-    size_t m = map_bytes(j.size);
+    size_t m = FRAME_MAP_BYTES(j.size);
     for (size_t room = m; room < m + 3; room++) {
         CHECK(route_guarded(&j, room, got, &number) == FRAME_DONE && number == 0, "size %u, number %u", j.size, number);
         for (size_t i = 0; i < m; i++) {
             CHECK(got[i] == map[i], "size %u, byte %zu: %02X and not %02X", j.size, i, got[i], map[i]);
         }
     }
-    CHECK(route_guarded(&j, m - 1, got, &number) == FRAME_ROOM && number == m, "size %u, room %zu: number %u", j.size, m - 1, number);
+    CHECK(route_guarded(&j, m - 1, got, &number) == FRAME_WRONG_ROOM && number == m, "size %u, room %zu: number %u", j.size, m - 1, number);
 }
 
 static void refused(struct job j, size_t room_len, uint32_t code, uint32_t number)
@@ -75,9 +70,9 @@ static void bench_examples(void)
     refused((struct job){1, {1, 0, 1, 0, 0, 0}}, 48, FRAME_OVERFULL_L, 2);
     refused((struct job){2, {0, 2, 0, 1, 0, 0}}, 48, FRAME_OVERFULL_T, 3);
     refused((struct job){64, {65535, 0, 65535, 0, 0, 65535}}, 48, FRAME_OVERFULL_L, 196605);
-    refused((struct job){0, {0, 0, 0, 0, 0, 0}}, 48, FRAME_SIZE, 0);
-    refused((struct job){65, {0, 0, 0, 0, 0, 0}}, 48, FRAME_SIZE, 65);
-    refused((struct job){2, {9, 9, 9, 9, 9, 9}}, 1, FRAME_ROOM, 2);
+    refused((struct job){0, {0, 0, 0, 0, 0, 0}}, 48, FRAME_WRONG_SIZE, 0);
+    refused((struct job){65, {0, 0, 0, 0, 0, 0}}, 48, FRAME_WRONG_SIZE, 65);
+    refused((struct job){2, {9, 9, 9, 9, 9, 9}}, 1, FRAME_WRONG_ROOM, 2);
     /* 65535 + 1 is 65536 and not 0 */
     refused((struct job){64, {65535, 0, 1, 0, 0, 0}}, 48, FRAME_OVERFULL_L, 65536);
     refused((struct job){2, {0, 0, 0, 2, 1, 0}}, 2, FRAME_OVERFULL_R, 3);
@@ -103,7 +98,7 @@ static void carries(const struct job *j, const uint8_t *map)
         }
         CHECK(closed == j->n[c], "size %u, type %u: %u closed for %u nets", w, c + 1, closed, j->n[c]);
     }
-    for (size_t k = 6 * (size_t)w; k < 8 * map_bytes(j->size); k++) {
+    for (size_t k = 6 * (size_t)w; k < 8 * FRAME_MAP_BYTES(j->size); k++) {
         CHECK(!(map[k / 8] >> (k % 8) & 1), "size %u: spare bit %zu is set", w, k);
     }
 }
@@ -144,7 +139,7 @@ static void table_two(void)
                 j.n[c] = (uint16_t)(rest % (w + 1u));
                 rest /= w + 1u;
             }
-            if (route_guarded(&j, map_bytes(w), map, &number) == FRAME_DONE) {
+            if (route_guarded(&j, FRAME_MAP_BYTES(w), map, &number) == FRAME_DONE) {
                 carries(&j, map);
                 done++;
             }
@@ -159,15 +154,15 @@ static void every_size(void)
     for (uint16_t w = 0; w <= 66; w++) {
         struct job full = {w, {w, w, 0, 0, 0, 0}};
         struct job over = {w, {w, w, 0, 0, 0, 1}};
-        size_t m = map_bytes(w);
+        size_t m = FRAME_MAP_BYTES(w);
         if (w < 1 || w > 64) {
             for (size_t room = 0; room < 60; room++) {
-                refused(full, room, FRAME_SIZE, w);
+                refused(full, room, FRAME_WRONG_SIZE, w);
             }
             continue;
         }
         for (size_t room = 0; room < m; room++) {
-            refused(full, room, FRAME_ROOM, (uint32_t)m);
+            refused(full, room, FRAME_WRONG_ROOM, (uint32_t)m);
         }
         uint8_t map[FRAME_MOST_MAP];
         uint32_t number;
@@ -180,8 +175,8 @@ static void every_size(void)
 static void no_room_at_all(void)
 {
     uint32_t number = 7;
-    CHECK(frame_route(2, 0, 0, 0, 0, 0, 0, NULL, 0, &number) == FRAME_ROOM && number == 2, "number %u", number);
-    CHECK(frame_route(0, 0, 0, 0, 0, 0, 0, NULL, 0, &number) == FRAME_SIZE && number == 0, "number %u", number);
+    CHECK(frame_route(2, 0, 0, 0, 0, 0, 0, NULL, 0, &number) == FRAME_WRONG_ROOM && number == 2, "number %u", number);
+    CHECK(frame_route(0, 0, 0, 0, 0, 0, 0, NULL, 0, &number) == FRAME_WRONG_SIZE && number == 0, "number %u", number);
 }
 
 int main(void)

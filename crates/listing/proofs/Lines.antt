@@ -6,18 +6,18 @@ use mathlib.Core.List.{List, [], _∷_, _++_, append-nil}
 use native.Mathlib.Omega.{arith}
 use native.Mathlib.Numerals.{add-one}
 use lib.ListN.{length, length-append, List·getD-eq-default}
-use borrow.Author.Tests.{lt-ltb}
 use Rattle.answers.specs.declared.Answer.{Answer}
 use Rattle.answers.specs.Table.{codeOf, numberOf}
 use Rattle.counting.specs.Count.{count}
 use Rattle.wiring.specs.Wiring.{fromSide, toSide}
-use Rattle.wiring.specs.Frame.{typeIn, placeIn, frame}
+use Rattle.wiring.specs.Frame.{typeIn, frame}
 use Rattle.wiring.specs.Map.{closedIn}
 use Rattle.wiring.proofs.Frame.{is-there}
-use Rattle.frame.specs.declared.Sorted.the-variants.{Relay, NoRelay}
+use Rattle.frame.specs.declared.Sorted.the-variants.{Relay}
 use Rattle.frame.specs.declared.Terminal.{Terminal}
-use Rattle.frame.specs.declared.Terminals.the-variants.{Joined, Nothing}
+use Rattle.frame.specs.declared.Terminals.the-variants.{Joined}
 use Rattle.frame.specs.Leaves.{sorted, terminalsOf}
+use Rattle.frame.proofs.Ends.{ends-are, sorted-there}
 use Rattle.text.specs.Decimal.{decimal}
 use Rattle.text.specs.Wrote.{Wrote}
 use Rattle.text.proofs.Stores.{wrote-none, wrote-append}
@@ -52,30 +52,15 @@ pub record IsNet (W k c : ℕ) (a b : Terminal) : Type 0 where
   pub to : 1 ≤ b .side
 
 module _ (W k : ℕ) (h : k < 6 * W) where
-  sorted-there : sorted W k ≡ Relay (typeIn W k) (placeIn W k)
-  unfolding sorted
-  sorted-there = rw (lt-ltb k (6 * W) h)
-
-  terminals-there : terminalsOf W k ≡ Joined (record { side = fromSide (frame W) k; position = frame W .first k }) (record { side = toSide (frame W) k; position = frame W .second k })
-  unfolding terminalsOf
-  terminals-there = rw (lt-ltb k (6 * W) h)
-
-  pub some-relay : sorted W k ≡ NoRelay → ⊥
-  some-relay e = let z : _≡_ {A = ℕ} 0 1 = cc sorted-there in omega arith
-
-  pub some-terminals : terminalsOf W k ≡ Nothing → ⊥
-  some-terminals e = let z : _≡_ {A = ℕ} 0 1 = cc terminals-there in omega arith
-
   net-there : IsNet W k (typeIn W k) (record { side = fromSide (frame W) k; position = frame W .first k }) (record { side = toSide (frame W) k; position = frame W .second k })
   unfolding netLine
   net-there = let r = is-there W k h in record { line = refl; long = simp length-append (omega arith); from = r .sides .from1; to = r .sides .to1 }
 
   pub is-net : (c p : ℕ) (a b : Terminal) → sorted W k ≡ Relay c p → terminalsOf W k ≡ Joined a b → IsNet W k c a b
   is-net c p a b e f =
-      let ec : typeIn W k ≡ c = cc sorted-there in
-      let ea : record { side = fromSide (frame W) k; position = frame W .first k } ≡ a = cc terminals-there in
-      let eb : record { side = toSide (frame W) k; position = frame W .second k } ≡ b = cc terminals-there in
-      rw (← ec, ← ea, ← eb) net-there
+      let ec : typeIn W k ≡ c = cc (sorted-there W k h) in
+      let ends = ends-are W k a b f in
+      rw (← ec, ends .from, ends .to) net-there
 
 -- what is printed of a map, by its number of nets
 pub record IsMapText (W nets : ℕ) (m : List ℕ) : Type 0 where

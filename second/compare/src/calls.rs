@@ -42,8 +42,9 @@ pub fn any_type(rng: &mut Prng) -> u16 {
     }
 }
 
-/// Mostly a closed relay; else any, open or closed, the number of a spare bit or
-/// of one past the map, or one that is closed if only some of its bits count.
+/// Mostly a closed relay, if there are any; else any, open or closed, the number
+/// of a spare bit or of one past the map, or one that is closed if only some of
+/// its bits count.
 pub fn any_relay(rng: &mut Prng, size: u16, closed: &[u16]) -> u16 {
     let relays = 6 * size.min(66);
     let bits = relays.next_multiple_of(8);

@@ -20,7 +20,7 @@ const fn kind(name: &'static str, compare: fn(&mut Both) -> Compared) -> Kind {
 }
 
 /// A random input is of one of these.
-pub const RANDOM: [Kind; 39] = [
+pub const RANDOM: [Kind; 41] = [
     kind("route: sparse jobs", |b| route(b, jobs::sparse)),
     kind("route: uniform jobs", |b| route(b, jobs::uniform)),
     kind("route: dense jobs", |b| route(b, jobs::dense)),
@@ -49,6 +49,10 @@ pub const RANDOM: [Kind; 39] = [
     kind("check: several faults", |b| check(b, maps::several_faults)),
     kind("check: sizes that are not served", |b| {
         check(b, |rng, question| question.size = jobs::unserved_size(rng))
+    }),
+    kind("terminals: of any relay", |b| terminals(b, jobs::any_size)),
+    kind("terminals: sizes that are not served", |b| {
+        terminals(b, jobs::unserved_size)
     }),
     kind("read: whole job records", |b| read(b, records::job)),
     kind("read: whole pattern records", |b| read(b, records::pattern)),
@@ -131,6 +135,12 @@ fn check(both: &mut Both, damage: fn(&mut Prng, &mut Question)) -> Compared {
     let mut question = maps::right(&mut both.rng, size);
     damage(&mut both.rng, &mut question);
     both.check_map(&question)
+}
+
+fn terminals(both: &mut Both, size: fn(&mut Prng) -> u16) -> Compared {
+    let size = size(&mut both.rng);
+    let relay = calls::any_relay(&mut both.rng, size, &[]);
+    both.relay_terminals(size, relay)
 }
 
 fn read(both: &mut Both, record: fn(&mut Prng) -> Vec<u8>) -> Compared {

@@ -14,3 +14,4 @@ pub mod prng;
 pub mod records;
 pub mod small;
 pub mod tally;
+pub mod terminals;

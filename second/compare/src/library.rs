@@ -30,6 +30,15 @@ extern "C" {
         number: *mut u32,
     ) -> u32;
 
+    fn frame_relay_terminals(
+        size: u16,
+        relay: u16,
+        net_type: *mut u16,
+        earlier: *mut Terminal,
+        later: *mut Terminal,
+        number: *mut u32,
+    ) -> u32;
+
     fn frame_read_job(
         record: *const u8,
         record_len: usize,
@@ -93,6 +102,14 @@ extern "C" {
         -> u32;
 }
 
+/// A terminal as it is told: its side, 1 to 4, and its position.
+#[repr(C)]
+#[derive(Clone, Copy, Debug, Default, PartialEq, Eq)]
+pub struct Terminal {
+    pub side: u16,
+    pub position: u16,
+}
+
 /// What stands beside an add that is refused.
 pub const NO_RELAY: u16 = 65535;
 
@@ -102,11 +119,24 @@ const STALE: u8 = 0xA5;
 const STALE_16: u16 = u16::from_ne_bytes([STALE; 2]);
 const STALE_32: u32 = u32::from_ne_bytes([STALE; 4]);
 const STALE_SIZE: usize = usize::from_ne_bytes([STALE; size_of::<usize>()]);
+const STALE_TERMINAL: Terminal = Terminal {
+    side: STALE_16,
+    position: STALE_16,
+};
 
 #[derive(Clone, Copy, Debug, PartialEq, Eq)]
 pub struct Answer {
     pub code: u32,
     pub number: u32,
+}
+
+/// All that is told of a relay.
+#[derive(Clone, Copy, Debug, PartialEq, Eq)]
+pub struct Told {
+    pub answer: Answer,
+    pub net_type: u16,
+    pub earlier: Terminal,
+    pub later: Terminal,
 }
 
 /// All that a reader gives back; the job reader's map is none.
@@ -183,6 +213,28 @@ impl Library {
             )
         };
         Answer { code, number }
+    }
+
+    pub fn relay_terminals(&self, size: u16, relay: u16) -> Told {
+        let (mut net_type, mut number) = (STALE_16, STALE_32);
+        let (mut earlier, mut later) = (STALE_TERMINAL, STALE_TERMINAL);
+        // SAFETY: all that is written is lent for the call, and none overlap.
+        let code = unsafe {
+            frame_relay_terminals(
+                size,
+                relay,
+                &mut net_type,
+                &mut earlier,
+                &mut later,
+                &mut number,
+            )
+        };
+        Told {
+            answer: Answer { code, number },
+            net_type,
+            earlier,
+            later,
+        }
     }
 
     pub fn read_job(&self, record: &[u8]) -> Read {

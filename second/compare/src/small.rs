@@ -69,6 +69,18 @@ fn closed_counts(map: &[u8]) -> Counts {
     counts
 }
 
+/// Every relay at every size up to 66, and numbers past the last.
+pub fn all_relays(both: &mut Both) -> Compared {
+    for size in 0..=66 {
+        for relay in (0..=6 * size + 16).chain([65535]) {
+            both.tally
+                .input("all relays of sizes 0 to 66, and some past the last");
+            both.relay_terminals(size, relay)?;
+        }
+    }
+    Ok(())
+}
+
 /// Every map of sizes 1 and 2, right or not, with every type up to 7 and every
 /// relay up to the first past the map.
 pub fn all_small_changes(both: &mut Both) -> Compared {

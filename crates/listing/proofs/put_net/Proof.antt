@@ -1,8 +1,9 @@
 use mathlib.Core.Path.{sym, _∙_}
 use native.Mathlib.Omega.{arith}
 use borrow.Author.Needs.{needs}
+use Rattle.frame.proofs.Ends.{some-relay, ends-always}
 use Rattle.text.proofs.Stores.{wrote-as, wrote-append}
-use Rattle.listing.proofs.Lines.{IsNet, some-relay, some-terminals, is-net}
+use Rattle.listing.proofs.Lines.{IsNet, is-net}
 use Rattle.listing.proofs.put_net.Statement.{statement}
 use Rattle.listing.proofs.put_net.Tie as tie
 
@@ -20,7 +21,7 @@ returns c = absurd (some-relay _ _ (c .before .before .before .before .pre .0) (
 returns-2 : tie.Need-returns-2
 returns-2 c =
     let sorted = c .before .before .before .before in
-    absurd (some-terminals _ _ (sorted .before .before .before .before .pre .0) (sym (c .before .before .relay-terminals .ensures) ∙ c .enum-told2 .given .1))
+    absurd (ends-always _ _ (sorted .before .before .before .before .pre .0) (sym (c .before .before .relay-terminals .ensures) ∙ c .enum-told2 .given .1))
 
 put-byte-requires : tie.Need-put-byte-requires
 put-byte-requires c κs = omega (arith, net (c .before .before .before .before .before .before .before .before .before .before .before .before .before .before))

@@ -4,7 +4,7 @@
 use compare::both::{Both, Compared};
 use compare::kinds::RANDOM;
 use compare::lister::all_listings;
-use compare::small::{all_openings, all_small_changes, all_small_jobs, all_small_maps};
+use compare::small::{all_openings, all_relays, all_small_changes, all_small_jobs, all_small_maps};
 use std::env;
 use std::process::ExitCode;
 use std::time::{SystemTime, UNIX_EPOCH};
@@ -47,6 +47,7 @@ fn clock_seed() -> u64 {
 fn compare_all(both: &mut Both, inputs: u64) -> Compared {
     all_small_jobs(both)?;
     all_small_maps(both)?;
+    all_relays(both)?;
     all_small_changes(both)?;
     all_openings(both)?;
     for _ in 0..inputs {
