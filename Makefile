@@ -11,6 +11,7 @@ shared := target/shared/libylvanteri_frame.so
 .NOTPARALLEL:
 
 all: archive shared lister ## proves and builds the archive, the shared library and the lister
+	@echo 'Built: $(archive), $(shared), $(lister)' >&2
 
 run: lister ## proves and builds the bench lister and runs it on the worked job record
 	@echo 'The lister on the worked job record, crates/lister/stdin:' >&2

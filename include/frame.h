@@ -42,9 +42,10 @@ extern "C" {
 #endif
 
 /*
- * The version of this header. While its first number is 0, each change of a declaration here raises the second one
- * and with it the shared library's soname, libylvanteri_frame.so.0.3; the third counts what changes no declaration.
- * A program that was compiled with one second number must not be run with the library of another: see frame_version.
+ * The version of this header. Its first number stays 0 while declarations still change, until the fourteen requests
+ * have landed: each change of a declaration raises the second number, and with it the shared library's soname,
+ * libylvanteri_frame.so.0.3; the third counts what changes no declaration. A program that was compiled with one second
+ * number must not be run with the library of another: see frame_version.
  */
 #define FRAME_VERSION_MAJOR 0
 #define FRAME_VERSION_MINOR 3

@@ -16,8 +16,9 @@ pub record Wires : Type 0 where
   pub codes : (W k : ℕ) → CodeIn (0 ∷ 1 ∷ 20 ∷ []) (wiredAs W k .answer)
   pub told : (W k : ℕ) → RelayTold W k (wiredAs W k .answer)
   pub refused : (W k : ℕ) → (wiredAs W k .answer ≡ Done → ⊥) → wiredAs W k ≡ notWired (wiredAs W k .answer)
-  -- each relay of a size that is served is told, and joins position p of its type's earlier side to W + 1 - p of the later side
+  -- each relay of a size that is served is told, and no other; it joins position p of its type's earlier side to W + 1 - p of the later side
   pub done : (W k : ℕ) → Served W → k < frame W .relays → wiredAs W k .answer ≡ Done
+  pub there : (W k : ℕ) → wiredAs W k .answer ≡ Done → Served W × (k < frame W .relays)
   pub joins : (W k : ℕ) → wiredAs W k .answer ≡ Done → WiredRight W k (wiredAs W k)
   -- and terminals p and q of a type's two sides have a relay if p + q = W + 1: relay (c, p)
   pub joined : (W c p q : ℕ) → Served W → 1 ≤ c → c ≤ 6 → 1 ≤ p → 1 ≤ q → p + q ≡ W + 1

@@ -103,6 +103,11 @@ module _ (W k : ℕ) where
   pub wired-there : Served W → k < frame W .relays → wiredAs W k ≡ asWired W k
   wired-there s h = wired-holds (λ (r : Wired). r ≡ asWired W k) W k (λ t l. refl) (λ n. absurd (n s)) (λ t l. absurd (omega arith))
 
+  pub wired-served : wiredAs W k .answer ≡ Done → Served W × (k < frame W .relays)
+  wired-served =
+      wired-holds (λ (r : Wired). r .answer ≡ Done → Served W × (k < frame W .relays)) W k (λ s h e. (s, h))
+      (λ s e. let z : _≡_ {A = ℕ} 0 1 = cc in absurd (omega arith)) (λ s h e. let z : _≡_ {A = ℕ} 0 1 = cc in absurd (omega arith))
+
   -- a relay that is told joins position p of its type's earlier side to position W + 1 - p of the later side, and has the number of (type, p)
   pub wired-joins : wiredAs W k .answer ≡ Done → WiredRight W k (wiredAs W k)
   wired-joins =
