@@ -7,10 +7,10 @@ archive := target/staticlib/libframe_c.a
 lister := target/bin/lister
 shared := target/shared/libylvanteri_frame.so
 
-.PHONY: all run test check compare bench install uninstall dist clean help archive lister shared
+.PHONY: all run test check compare bench install uninstall dist clean help archive lister shared needs-gcc needs-cargo
 .NOTPARALLEL:
 
-all: archive shared lister ## proves and builds the archive, the shared library and the lister
+all: needs-gcc archive shared lister ## proves and builds the archive, the shared library and the lister
 	@echo 'Built: $(archive), $(shared), $(lister)' >&2
 
 run: lister ## proves and builds the bench lister and runs it on the worked job record
@@ -29,12 +29,10 @@ check: ## for the day's work: proves what changed, C tests, examples, one row fo
 	@tests/examples/run
 	@tests/consistent/run
 
-compare: archive lister ## compares N=1000000 more random inputs with the second program (SEED=.. repeats a run)
-	@tools/needs cargo
+compare: needs-gcc needs-cargo archive lister ## compares N=1000000 more random inputs with the second program (SEED=.. repeats a run)
 	@cd second && FRAME_LISTER=../$(lister) cargo run -q --release --offline -p compare --bin compare -- $(N) $(SEED)
 
-bench: archive ## measures the router beside the second program's; part of no test
-	@tools/needs cargo
+bench: needs-gcc needs-cargo archive ## measures the router beside the second program's; part of no test
 	@cd second && cargo run -q --release --offline -p compare --bin bench
 
 install: all ## header, libraries, lister, man page, code page and pkg-config file under PREFIX=/usr/local (and DESTDIR)
@@ -52,25 +50,28 @@ clean: ## removes all that was built; the next proof starts from nothing
 help: ## lists what can be made
 	@sed -n 's/^\([a-z]*\):.* ## \(.*\)/\1|\2/p' Makefile | awk -F'|' '{ printf "make %-10s %s\n", $$1, $$2 }'
 
+# told before anything is proved
+needs-gcc needs-cargo:
+	@tools/needs $(@:needs-%=%)
+
 archive: $(archive)
 lister: $(lister)
-shared: $(shared)
+shared: needs-gcc $(shared)
 
 $(archive): $(sources)
 	@tools/needs rt
-	@echo 'Proving the library, crate by crate: about 2 minutes on two cores the first time.' >&2
+	@echo 'Proving the library, crate by crate: one to two minutes on two cores the first time.' >&2
 	@tools/shown staticlib frame_c
 	@touch $@
 
 $(lister): $(sources)
 	@tools/needs rt
-	@echo 'Proving the bench lister, crate by crate: about 2 minutes on two cores the first time.' >&2
+	@echo 'Proving the bench lister, crate by crate: one to two minutes on two cores the first time.' >&2
 	@tools/shown check lister
 	@touch $@
 
 # bound at once, so that no entry's stack holds the loader's work; without symbols that only a linker reads
 $(shared): $(archive) shared/frame_code_text.c include/frame.h
-	@tools/needs gcc
 	@mkdir -p target/shared
 	@gcc -std=c99 -O2 -fPIC -shared -s -Iinclude -Wl,-soname,libylvanteri_frame.so.$$(tools/version --minor) -Wl,-z,now -Wl,--no-undefined \
 	    -o $@ shared/frame_code_text.c -Wl,--whole-archive $(archive) -Wl,--no-whole-archive
