@@ -60,13 +60,13 @@ shared: needs-gcc $(shared)
 
 $(archive): $(sources)
 	@tools/needs rt
-	@echo 'Proving the library, crate by crate: one to two minutes on two cores the first time.' >&2
+	@echo 'Proving the library, crate by crate: about two minutes on two cores the first time.' >&2
 	@tools/shown staticlib frame_c
 	@touch $@
 
 $(lister): $(sources)
 	@tools/needs rt
-	@echo 'Proving the bench lister, crate by crate: one to two minutes on two cores the first time.' >&2
+	@echo 'Proving the bench lister, crate by crate: about two minutes on two cores the first time.' >&2
 	@tools/shown check lister
 	@touch $@
 
