@@ -71,7 +71,7 @@ extern "C" {
 #define FRAME_MOST_MAP 48
 #define FRAME_MOST_PATTERN_RECORD 70
 
-/* The codes: when each comes back, and with which number. docs/CODES.md says how each comes about and what to do. */
+/* The codes: when each comes back, and with which number. CODES.md says how each comes about and what to do. */
 enum frame_code {
     FRAME_DONE = 0,             /* done: 0 */
     FRAME_WRONG_SIZE = 1,       /* size not 1 to 64: the size */
