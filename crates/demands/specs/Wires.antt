@@ -22,5 +22,9 @@ pub record Wires : Type 0 where
   pub joins : (W k : ℕ) → wiredAs W k .answer ≡ Done → WiredRight W k (wiredAs W k)
   -- and terminals p and q of a type's two sides have a relay if p + q = W + 1: relay (c, p)
   pub joined : (W c p q : ℕ) → Served W → 1 ≤ c → c ≤ 6 → 1 ≤ p → 1 ≤ q → p + q ≡ W + 1
-      → wiredAs W (relay W c p)
-      ≡ record { answer = Done; kind = c; earlier = record { side = earlier four c; position = p }; later = record { side = later four c; position = q } }
+      → wiredAs W (relay W c p) ≡ record {
+        answer = Done;
+        kind = c;
+        earlier = record { side = earlier four c; position = p };
+        later = record { side = later four c; position = q };
+      }

@@ -7,14 +7,6 @@ ghost use Rattle.frame_c.specs.About.{version, endTold};
 use crate::telling::tell;
 use frame::Terminal;
 
-// The version of the header that these entries belong to.
-#[no_mangle]
-pub extern "C" fn frame_version() -> u32
-    ensures { λ r. ⌜ r ≡ version ⌝ }
-{
-    300
-}
-
 // A terminal as two numbers, its side and its position.
 fn end_told(t: Terminal) -> [u16; 2]
     requires { ⌜ t .side < 65536 ⌝ }
@@ -22,6 +14,14 @@ fn end_told(t: Terminal) -> [u16; 2]
     ensures { λ r. ⌜ r ≡ endTold t ⌝ }
 {
     [t.side as u16, t.position as u16]
+}
+
+// The version of the header that these entries belong to.
+#[no_mangle]
+pub extern "C" fn frame_version() -> u32
+    ensures { λ r. ⌜ r ≡ version ⌝ }
+{
+    300
 }
 
 #[no_mangle]
