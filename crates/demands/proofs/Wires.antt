@@ -1,6 +1,5 @@
 -- What is promised of a relay that a caller asks for by its number holds. Assumes nothing.
 use mathlib.Core.Path.{ap, _∙_}
-use native.Mathlib.Omega.{arith}
 use Rattle.wiring.specs.Frame.{four, relay}
 use Rattle.wiring.proofs.Frame.{joined}
 use Rattle.wires.specs.declared.Wired.{Wired}
