@@ -16,7 +16,7 @@ import sys
 
 DONE = 0
 MOST_MAP = 48
-SERIES = 3  # the second number of the version that this program was written for
+SERIES = 4  # the second number of the version that this program was written for
 SONAME = f"libylvanteri_frame.so.0.{SERIES}"
 
 

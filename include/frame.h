@@ -44,11 +44,11 @@ extern "C" {
 /*
  * The version of this header. Its first number stays 0 while declarations still change, until the fourteen requests
  * have landed: each change of a declaration raises the second number, and with it the shared library's soname,
- * libylvanteri_frame.so.0.3; the third counts what changes no declaration. A program that was compiled with one second
+ * libylvanteri_frame.so.0.4; the third counts what changes no declaration. A program that was compiled with one second
  * number must not be run with the library of another: see frame_version.
  */
 #define FRAME_VERSION_MAJOR 0
-#define FRAME_VERSION_MINOR 3
+#define FRAME_VERSION_MINOR 4
 #define FRAME_VERSION_PATCH 0
 #define FRAME_VERSION (FRAME_VERSION_MAJOR * 10000 + FRAME_VERSION_MINOR * 100 + FRAME_VERSION_PATCH)
 
@@ -87,7 +87,7 @@ enum frame_code {
     FRAME_SPARE_BIT = 11,       /* spare bit of the map set: 0 */
     FRAME_SHARED_TERMINAL = 12, /* two closed relays share a terminal: the lowest that shares one with a lower relay */
     FRAME_WRONG_COUNT = 13,     /* closed relays of a type not as many as its count: the first such type */
-    FRAME_SUM_ABOVE = 14,       /* side sum above the size: the side, 1 to 4 for L, T, R, B */
+                                /* 14: retired, not used again */
                                 /* 15, 16, 17: not in use */
     FRAME_WRONG_TYPE = 18,      /* type not 1 to 6: the type */
     FRAME_NONE_FREE = 19,       /* no relay of the type has both its terminals free: the type */
@@ -112,7 +112,6 @@ static inline const char *frame_code_text(uint32_t code)
     case FRAME_SPARE_BIT: return "spare bit of the map set";
     case FRAME_SHARED_TERMINAL: return "two closed relays share a terminal";
     case FRAME_WRONG_COUNT: return "closed relays of a type not as many as its count";
-    case FRAME_SUM_ABOVE: return "side sum above the size";
     case FRAME_WRONG_TYPE: return "type not 1 to 6";
     case FRAME_NONE_FREE: return "no relay of the type has both its terminals free";
     case FRAME_NOT_CLOSED: return "relay not closed, or not there";
@@ -120,7 +119,7 @@ static inline const char *frame_code_text(uint32_t code)
     }
 }
 
-/* The version of the library that is linked, as FRAME_VERSION has it: 300 is 0.3.0. */
+/* The version of the library that is linked, as FRAME_VERSION has it: 400 is 0.4.0. */
 uint32_t frame_version(void);
 
 /*
@@ -137,7 +136,7 @@ FRAME_NODISCARD uint32_t frame_route(uint16_t size, uint16_t n1, uint16_t n2, ui
  * Says whether a map carries a job: of each type as many relays are closed as the job has nets, and no two closed
  * relays share a terminal. map_len must be exactly FRAME_MAP_BYTES(size), not the length of a longer room. Writes the
  * number alone, which must not overlap the map. Counts are 16 bits: 65537 in an int arrives as 1.
- * Codes in this order: 1, 2, 11, 12, 13, 14.
+ * Codes in this order: 1, 2, 11, 12, 13.
  */
 FRAME_NODISCARD uint32_t frame_check_map(uint16_t size, uint16_t n1, uint16_t n2, uint16_t n3, uint16_t n4,
                                          uint16_t n5, uint16_t n6, const uint8_t *map, size_t map_len,
@@ -179,7 +178,7 @@ FRAME_NODISCARD uint32_t frame_write_job(uint16_t size, uint16_t n1, uint16_t n2
  * Reads a pattern record. On FRAME_DONE the map stands in the record, *map_len bytes from record + *map_at on, and
  * carries the job that is given back. On a refusal *size, all counts, *map_at and *map_len are 0. None of what is
  * written may overlap, nor stand in the record.
- * Codes: 7, 8, 9, 1 as the fields come from the left, then 10, then the map check's 11, 12, 13, 14.
+ * Codes: 7, 8, 9, 1 as the fields come from the left, then 10, then the map check's 11, 12, 13.
  */
 FRAME_NODISCARD uint32_t frame_read_pattern(const uint8_t *record, size_t record_len, uint16_t *size,
                                             uint16_t counts[6], size_t *map_at, size_t *map_len,

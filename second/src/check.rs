@@ -1,12 +1,11 @@
 //! The map check, and the part of it that every start must pass.
 
-use crate::frame::{closed_relays, is_set, map_bytes, served, side_sums, Counts, Relay};
+use crate::frame::{closed_relays, is_set, map_bytes, served, Counts, Relay};
 use crate::{refuse, Refusal};
 
 pub fn check_map(size: u16, counts: Counts, map: &[u8]) -> Result<(), Refusal> {
     let closed = check_start(size, map)?;
-    types(&closed, counts)?;
-    sums(counts, usize::from(size))
+    types(&closed, counts)
 }
 
 /// The closed relays by rising number, if the map may be closed whatever its
@@ -45,15 +44,6 @@ fn types(closed: &[Relay], counts: Counts) -> Result<(), Refusal> {
     for (kind, count) in counts.into_iter().enumerate() {
         if closed.iter().filter(|r| r.kind == kind).count() != usize::from(count) {
             return refuse(13, kind + 1);
-        }
-    }
-    Ok(())
-}
-
-fn sums(counts: Counts, w: usize) -> Result<(), Refusal> {
-    for (side, sum) in side_sums(counts).into_iter().enumerate() {
-        if sum as usize > w {
-            return refuse(14, side + 1);
         }
     }
     Ok(())

@@ -45,7 +45,7 @@ static void texts(void)
     CHECK(strcmp(frame_code_text(FRAME_DONE), "done") == 0, "'%s'", frame_code_text(FRAME_DONE));
     CHECK(strcmp(frame_code_text(FRAME_NOT_CLOSED), "relay not closed, or not there") == 0, "'%s'", frame_code_text(FRAME_NOT_CLOSED));
     for (uint32_t a = 0; a < 256; a++) {
-        int unused = a > FRAME_NOT_CLOSED || (a > FRAME_SUM_ABOVE && a < FRAME_WRONG_TYPE);
+        int unused = a > FRAME_NOT_CLOSED || (a > FRAME_WRONG_COUNT && a < FRAME_WRONG_TYPE);
         CHECK((strcmp(frame_code_text(a), none) == 0) == unused, "code %u: '%s'", a, frame_code_text(a));
         for (uint32_t b = 0; b < a && !unused; b++) {
             CHECK(strcmp(frame_code_text(a), frame_code_text(b)) != 0, "codes %u and %u: '%s'", a, b, frame_code_text(a));

@@ -5,6 +5,7 @@ use mathlib.Core.List.{List}
 use Rattle.counting.specs.Lists.{among}
 use Rattle.answers.specs.declared.Answer.the-variants.{Done}
 use Rattle.answers.proofs.Done.{is-done, code-done}
+use Rattle.answers.proofs.Retired.{not-retired}
 use Rattle.answers.proofs.Lent.{room-stays}
 use Rattle.wiring.specs.Frame.{frame}
 use Rattle.wiring.proofs.Pigeon.{carried-within}
@@ -42,6 +43,7 @@ unfolding routeRoom jobRoom patternRoom
 demand-1 = record {
   code-0 = code-done;
   done-0 = (refl, refl);
+  not-retired = not-retired;
   route-codes = route-codes;
   check-codes = check-codes;
   read-job-codes = job-codes;

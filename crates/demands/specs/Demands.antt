@@ -3,7 +3,7 @@
 -- call has a `requires`. (A few leaves that only our own crates call have one; docs/DECISIONS.md lists them.) Assumes nothing.
 use Prim.Native.Nat.{ℕ, _+_, _≤_, _<_}
 use mathlib.Core.Path.{_≡_}
-use mathlib.Core.Bool.{Bool, _&&_}
+use mathlib.Core.Bool.{Bool, false, _&&_}
 use mathlib.Core.List.{List, [], _∷_, _++_}
 use lib.Dec.{eqb}
 use lib.ListN.{length, take, drop, replicate}
@@ -12,7 +12,7 @@ use Rattle.counting.specs.Lists.{among, Bytes}
 use Rattle.answers.specs.declared.Side.{Side}
 use Rattle.answers.specs.declared.Answer.{Answer}
 use Rattle.answers.specs.declared.Answer.the-variants.{Done, Overfull}
-use Rattle.answers.specs.Table.{codeOf, numberOf, CodeIn}
+use Rattle.answers.specs.Table.{codeOf, numberOf, retiredCodes, CodeIn}
 use Rattle.answers.specs.Lent.{over}
 use Rattle.wiring.specs.Wiring.{earlier, later, Within, Carries}
 use Rattle.wiring.specs.Frame.{four, frame}
@@ -47,6 +47,8 @@ pub record Demand1 : Type 0 where
   -- a program in C sees the code: it is 0 exactly if the answer is done
   pub code-0 : (a : Answer) → codeOf a ≡ 0 → a ≡ Done
   pub done-0 : (codeOf Done ≡ 0) × (numberOf Done ≡ 0)
+  -- and a code that is retired is no answer's
+  pub not-retired : (a : Answer) → among (codeOf a) retiredCodes ≡ false
   -- the codes that each call can give
   pub route-codes : (W : ℕ) (n : Counts) (room : List ℕ) → CodeIn (0 ∷ 1 ∷ 2 ∷ 3 ∷ 4 ∷ 5 ∷ 6 ∷ []) (routeAnswer W n room)
   pub check-codes : (W : ℕ) (n m : List ℕ) → CodeIn (0 ∷ 1 ∷ 2 ∷ 11 ∷ 12 ∷ 13 ∷ []) (checkMap W n m)

@@ -1,3 +1,4 @@
 pub mod Demands
 pub mod AddDrop
 pub mod Wires
+pub mod Retired

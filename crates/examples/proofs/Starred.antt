@@ -15,7 +15,7 @@ use Rattle.wiring.specs.Map.{closedIn, withClosed, closeAll, mapOf}
 use Rattle.wiring.specs.Check.{firstOver, spareSet, shares, clashes, clashAt, wrongType}
 use Rattle.counting.proofs.Bools.{and-parts, clear}
 use Rattle.answers.specs.Table.{codeOf, numberOf}
-use Rattle.frame.specs.Tests.{sizeTest, overfullTest, sumsTest}
+use Rattle.frame.specs.Tests.{sizeTest, overfullTest}
 use Rattle.loads.specs.Table.{table, row}
 use Rattle.loads.specs.Load.{within, atMost, fits, pick, load}
 use Rattle.loads.specs.Seat.{netList, seats, seatFits, seatOf, seating}
@@ -76,7 +76,7 @@ all-hold (e ∷ es) t (suc i) h other = all-hold es (and-parts (holds e) (allHol
 
 -- the computed test
 passes : allHold starred ≡ true
-unfolding allHold holds same starred routeRoom routeAnswer mapFor mapOf relaysFor serve seatedIn takes cells run capacity size centre spread seating seatOf seatFits touched seats netList load pick fits atMost within row table overfullTest sumsTest firstOver sizeTest checkMap closedTest countsTest mapTest sharedTest formTest wrongType clashAt clashes shares spareSet closeAll withClosed closedIn placeIn typeIn distinct among anyBelow firstFrom sumTo count
+unfolding allHold holds same starred routeRoom routeAnswer mapFor mapOf relaysFor serve seatedIn takes cells run capacity size centre spread seating seatOf seatFits touched seats netList load pick fits atMost within row table overfullTest firstOver sizeTest checkMap closedTest countsTest mapTest sharedTest formTest wrongType clashAt clashes shares spareSet closeAll withClosed closedIn placeIn typeIn distinct among anyBelow firstFrom sumTo count
 passes = refl
 
 -- The single statement: each example of the list, counted from 0, holds. `other` stands for what would be past the end.

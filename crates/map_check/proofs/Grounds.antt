@@ -18,7 +18,7 @@ use Rattle.frame.specs.Tests.{Served}
 use Rattle.frame.proofs.Tests.{size-is}
 use Rattle.frame.proofs.Grounds.{size-holds}
 use Rattle.map_check.specs.Check.{formTest, sharedTest, mapTest, countsTest, closedTest, checkMap}
-use Rattle.map_check.proofs.Meaning.{shared-is, count-is, sums-pass}
+use Rattle.map_check.proofs.Meaning.{shared-is, count-is}
 
 -- the refusals of a map that is to be closed
 pub record Refusals (P : Answer → Type 0) (W : ℕ) (m : List ℕ) : Type 0 where
@@ -50,7 +50,7 @@ module _ (P : Answer → Type 0) (W : ℕ) (m : List ℕ) (r : Refusals P W m) w
   unfolding countsTest
   counts-hold n count = if-holds (leb (wrongType (frame W) n (closedIn m)) 6) (Count (wrongType (frame W) n (closedIn m))) P (λ e. count _ (count-is W n m _ (rw e))) (r .done)
 
-  -- and of one that is held to a job: code 14 cannot arise
+  -- and of one that is held to a job
   pub check-holds : (n : List ℕ) → ((c : ℕ) → WrongFirst (frame W) n (closedIn m) c → P (Count c)) → P (checkMap W n m)
   unfolding checkMap
-  check-holds n count = and-then P _ _ closed-holds (λ s. and-then P _ _ (counts-hold n count) (λ c. rw (sums-pass W n m (is-done _ s) (is-done _ c)) (r .done)))
+  check-holds n count = and-then P _ _ closed-holds (λ s. counts-hold n count)

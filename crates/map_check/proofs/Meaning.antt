@@ -1,5 +1,5 @@
--- What the map check means: it is done exactly for the maps that carry the job, and then no side sum is above the size, so that
--- code 14 never is the answer; and what the codes 12 and 13 name. Assumes nothing.
+-- What the map check means: it is done exactly for the maps that carry the job; past 12 and 13 no side sum is above the size; and what
+-- the codes 12 and 13 name. Assumes nothing.
 use Prim.Native.Nat.{ℕ, _≤_}
 use mathlib.Core.Path.{_≡_, refl, sym}
 use mathlib.Core.Bool.{Bool, true, false, cond}
@@ -11,18 +11,18 @@ use borrow.Author.Tests.{eqb-true, eq-eqb, ltb-true, ltb-false, leb-true, leb-fa
 use Rattle.counting.specs.Lists.{Bytes}
 use Rattle.counting.proofs.Bools.{clear}
 use Rattle.answers.specs.declared.Answer.the-variants.{Done, Room, Spare, Shared, Count}
-use Rattle.answers.specs.Lent.{isDone, andThen}
+use Rattle.answers.specs.Lent.{isDone}
 use Rattle.answers.proofs.Done.{both-done, if-refuses, if-told}
-use Rattle.wiring.specs.Wiring.{nets, Apart, closedOf}
-use Rattle.wiring.specs.Frame.{frame}
+use Rattle.wiring.specs.Wiring.{nets, Within, Apart, closedOf}
+use Rattle.wiring.specs.Frame.{four, frame}
 use Rattle.wiring.specs.Map.{closedIn, IsMap, MapCarries}
 use Rattle.wiring.specs.Check.{spareSet, clashAt, LowestSharing, wrongType, WrongFirst}
 use Rattle.wiring.proofs.Pigeon.{carried-within}
 use Rattle.wiring.proofs.Frame.{frame-proper}
 use Rattle.wiring.proofs.Check.{spare-none, clash-lowest, clash-none, none-clash, wrong-first, wrong-none}
 use Rattle.frame.specs.Leaves.{mapBytes}
-use Rattle.frame.specs.Tests.{Served, sizeTest, sumsTest}
-use Rattle.frame.proofs.Tests.{size-is, size-served, within-sums}
+use Rattle.frame.specs.Tests.{Served, sizeTest}
+use Rattle.frame.proofs.Tests.{size-is, size-served}
 use Rattle.map_check.specs.Check.{formTest, sharedTest, mapTest, countsTest, closedTest, checkMap}
 use Rattle.map_check.proofs.Ways.{form-done, shared-nowhere, count-nowhere}
 
@@ -88,16 +88,12 @@ module _ (W : ℕ) (n m : List ℕ) where
       let z : wrongType (frame W) n (closedIn m) ≡ c = cc (t .1) in
       rw (← z) (wrong-first (frame W) n (closedIn m) (leb-true _ _ (t .0)))
 
-  -- past 12 and 13 the closed relays carry the job, and what is carried has no side overfull, so that code 14 cannot arise
-  carried : isDone (closedTest W m) ≡ true → isDone (countsTest W n m) ≡ true → MapCarries (frame W) n m
-  unfolding closedTest mapTest
-  carried e f = record { counts = counts-right f; apart = shared-apart W m (both-done (formTest W m) (sharedTest W m) (both-done (sizeTest W) (mapTest W m) e .1) .1) }
+  -- past 12 and 13 the closed relays carry the job, and what is carried has no side sum above the size
+  passed : isDone (sharedTest W m) ≡ true → isDone (countsTest W n m) ≡ true → MapCarries (frame W) n m
+  passed e f = record { counts = counts-right f; apart = shared-apart W m e }
 
-  carried-sums : MapCarries (frame W) n m → Done ≡ sumsTest W n
-  carried-sums d = within-sums W n (carried-within (frame W) (frame-proper W) n (closedIn m) d)
-
-  pub sums-pass : isDone (closedTest W m) ≡ true → isDone (countsTest W n m) ≡ true → sumsTest W n ≡ Done
-  sums-pass e f = sym (carried-sums (carried e f))
+  pub passed-within : isDone (sharedTest W m) ≡ true → isDone (countsTest W n m) ≡ true → Within four W n
+  passed-within e f = carried-within (frame W) (frame-proper W) n (closedIn m) (passed e f)
 
   -- the map carries the job
   pub record Carried : Type 0 where
@@ -108,12 +104,10 @@ module _ (W : ℕ) (n m : List ℕ) where
   pub check-is : Bytes m → isDone (checkMap W n m) ≡ true → Carried
   unfolding checkMap
   check-is b e =
-      let x = both-done (closedTest W m) (andThen (countsTest W n m) (sumsTest W n)) e in
-      let y = both-done (countsTest W n m) (sumsTest W n) (x .1) in
+      let x = both-done (closedTest W m) (countsTest W n m) e in
       let c = closed-is W m b (x .0) in
-      record { served = c .served; map = c .map; carries = carried (x .0) (y .0) }
+      record { served = c .served; map = c .map; carries = record { counts = counts-right (x .1); apart = c .apart } }
 
   pub is-check : Served W → IsMap (frame W .relays) m → MapCarries (frame W) n m → checkMap W n m ≡ Done
   unfolding checkMap
-  is-check s a d =
-      rw (is-closed-map W m (record { served = s; map = a; apart = d .apart }), ← count-nowhere W n m (d .counts), ← carried-sums d)
+  is-check s a d = rw (is-closed-map W m (record { served = s; map = a; apart = d .apart }), ← count-nowhere W n m (d .counts))
