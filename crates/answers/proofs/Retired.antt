@@ -1,6 +1,6 @@
 -- No answer has a code that is retired. Assumes nothing.
 use mathlib.Core.Path.{_≡_, refl}
-use mathlib.Core.Bool.{Bool, true, false, not}
+use mathlib.Core.Bool.{Bool, false, not}
 use denote.Enum.Declared.{Choice}
 use borrow.Author.Tests.{not-true}
 use Rattle.counting.specs.Lists.{among}

@@ -1,5 +1,5 @@
--- Why row 14 of the scope's table, a side sum above W in the map check, could go (requests, item 7). Proved in proofs/Retired.antt.
--- Assumes nothing.
+-- Why row 14 of the scope's table, a side sum above W in the map check, could go (requests, item 7). Proved in proofs/Retired.antt. That
+-- no answer has its code is in the first demand. Assumes nothing.
 use Prim.Native.Nat.{ℕ}
 use mathlib.Core.Path.{_≡_}
 use mathlib.Core.Bool.{Bool}

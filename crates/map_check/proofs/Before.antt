@@ -7,10 +7,10 @@ use mathlib.Core.Bool.{Bool, true, false, cond}
 use mathlib.Core.List.{List}
 use lib.Dec.{leb}
 use Rattle.answers.specs.declared.Answer.the-variants.{Done}
-use Rattle.answers.specs.Table.{sideOf}
+use Rattle.answers.specs.Table.{sideOf, codeOf, numberOf}
 use Rattle.answers.specs.Lent.{isDone, whenDone}
 use Rattle.answers.proofs.Done.{done-is, both-done}
-use Rattle.answers.proofs.Before.{AnswerBefore}
+use Rattle.answers.proofs.Before.{AnswerBefore, codeBefore, numberBefore}
 use Rattle.wiring.specs.Frame.{four}
 use Rattle.wiring.proofs.Frame.{none-over}
 use Rattle.frame.specs.Tests.{sizeTest, overAt}
@@ -44,3 +44,7 @@ module _ (W : ℕ) (n m : List ℕ) where
           → cond t (whenDone (countsTest W n m) inl (sumsBefore W n)) (inl (closedTest W m)) ≡ inl (cond t (countsTest W n m) (closedTest W m))
       closed true e = counted e (isDone (countsTest W n m)) refl
       closed false e = refl
+
+  -- so that a caller was told the same code and number
+  pub same-told : (codeBefore (checkBefore W n m) ≡ codeOf (checkMap W n m)) × (numberBefore (checkBefore W n m) ≡ numberOf (checkMap W n m))
+  same-told = (ap codeBefore same-check, ap numberBefore same-check)
