@@ -151,6 +151,18 @@ fn routed_if_some_map_carries() {
     }
 }
 
+/// Why the map check tests no side sums: a set that touches no terminal twice
+/// has none above the size.
+#[test]
+fn no_side_sum_above_the_size() {
+    for w in [1, 2, 3] {
+        for counts in (0..1 << (6 * w)).filter_map(|set| carried_by(set, w)) {
+            let within = side_sums(counts).iter().all(|&sum| sum as usize <= w);
+            assert!(within, "size {w}: {counts:?}");
+        }
+    }
+}
+
 #[test]
 fn two_routers_agree() {
     for size in 0..=3 {
