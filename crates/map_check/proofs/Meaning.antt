@@ -89,11 +89,8 @@ module _ (W : ℕ) (n m : List ℕ) where
       rw (← z) (wrong-first (frame W) n (closedIn m) (leb-true _ _ (t .0)))
 
   -- past 12 and 13 the closed relays carry the job, and what is carried has no side sum above the size
-  passed : isDone (sharedTest W m) ≡ true → isDone (countsTest W n m) ≡ true → MapCarries (frame W) n m
-  passed e f = record { counts = counts-right f; apart = shared-apart W m e }
-
   pub passed-within : isDone (sharedTest W m) ≡ true → isDone (countsTest W n m) ≡ true → Within four W n
-  passed-within e f = carried-within (frame W) (frame-proper W) n (closedIn m) (passed e f)
+  passed-within e f = carried-within (frame W) (frame-proper W) n (closedIn m) (record { counts = counts-right f; apart = shared-apart W m e })
 
   -- the map carries the job
   pub record Carried : Type 0 where
