@@ -18,7 +18,7 @@ use Rattle.router.specs.Router.{routeAnswer, routeRoom}
 use Rattle.router.proofs.Maps.{relays-below, relays-carry, map-is, map-carries}
 use Rattle.router.proofs.Answering.{routed, answers-done}
 use Rattle.router.proofs.Told.{route-codes, route-told, route-overfull}
-use Rattle.map_check.proofs.Meaning.{check-is, is-check}
+use Rattle.map_check.proofs.Meaning.{check-first, check-is, is-check}
 use Rattle.map_check.proofs.Told.{check-codes, check-told}
 use Rattle.jobs.specs.declared.Job.{Job}
 use Rattle.jobs.specs.declared.JobRead.{JobRead}
@@ -56,6 +56,7 @@ demand-1 = record {
   write-job-told = written-job-told;
   list-told = list-told;
   check-told = check-told;
+  check-first = check-first;
   write-pattern-first = written-pattern-first;
   write-pattern-told = written-pattern-told;
   read-job-told = job-told;

@@ -23,7 +23,7 @@ use Rattle.frame.specs.Tests.{Served}
 use Rattle.frame.specs.Told.{RoomTold, SideTold}
 use Rattle.router.specs.Route.{relaysFor, mapFor}
 use Rattle.router.specs.Router.{routeAnswer, routeRoom}
-use Rattle.map_check.specs.Check.{checkMap}
+use Rattle.map_check.specs.Check.{closedTest, checkMap}
 use Rattle.map_check.specs.Told.{MapTold}
 use Rattle.jobs.specs.declared.Job.{Job}
 use Rattle.jobs.specs.Format.{jobRecord}
@@ -64,8 +64,10 @@ pub record Demand1 : Type 0 where
   pub write-job-told : (j : Job) (room : List ℕ) → RoomTold (j .size) (length (jobRecord j)) room (jobAnswer j room)
   pub list-told : (s room : List ℕ) → codeOf (listed s room .answer) ≡ 2
       → (numberOf (listed s room .answer) ≡ mostText) × (length room < mostText)
-  -- .. the relay and the type that the map check names; the pattern writer makes the map check first, and then asks for its record's length
+  -- .. the relay and the type that the map check names; a map that may not be closed is refused for that, whatever its job. The pattern
+  -- writer makes the map check first, and then asks for its record's length
   pub check-told : (W : ℕ) (n m : List ℕ) → MapTold W n m (checkMap W n m)
+  pub check-first : (W : ℕ) (n m : List ℕ) → (closedTest W m ≡ Done → ⊥) → checkMap W n m ≡ closedTest W m
   pub write-pattern-first : (j : Job) (map room : List ℕ) → (checkJob j map ≡ Done → ⊥) → patternAnswer j map room ≡ checkJob j map
   pub write-pattern-told : (j : Job) (map room : List ℕ) → checkJob j map ≡ Done
       → RoomTold (j .size) (length (patternRecord j map)) room (patternAnswer j map room)

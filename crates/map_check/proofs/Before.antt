@@ -18,33 +18,33 @@ use Rattle.map_check.specs.Check.{formTest, sharedTest, mapTest, countsT
 use Rattle.map_check.proofs.Meaning.{passed-within}
 
 -- code 14: the first side, in the order L, T, R, B, that is asked for more than W nets
-unfoldable pub sumsBefore : ℕ → List ℕ → AnswerBefore
-sumsBefore W n = cond (leb (overAt W n) 4) (inr (sideOf (overAt W n))) (inl Done)
+unfoldable pub sumsTestBefore : ℕ → List ℕ → AnswerBefore
+sumsTestBefore W n = cond (leb (overAt W n) 4) (inr (sideOf (overAt W n))) (inl Done)
 
 -- the order 1, 2, 11, 12, 13, 14
-unfoldable pub checkBefore : ℕ → List ℕ → List ℕ → AnswerBefore
-checkBefore W n m = whenDone (closedTest W m) inl (whenDone (countsTest W n m) inl (sumsBefore W n))
+unfoldable pub checkMapBefore : ℕ → List ℕ → List ℕ → AnswerBefore
+checkMapBefore W n m = whenDone (closedTest W m) inl (whenDone (countsTest W n m) inl (sumsTestBefore W n))
 
 module _ (W : ℕ) (n m : List ℕ) where
-  sums-passed : isDone (closedTest W m) ≡ true → isDone (countsTest W n m) ≡ true → sumsBefore W n ≡ inl Done
-  unfolding sumsBefore closedTest mapTest
+  sums-passed : isDone (closedTest W m) ≡ true → isDone (countsTest W n m) ≡ true → sumsTestBefore W n ≡ inl Done
+  unfolding sumsTestBefore closedTest mapTest
   sums-passed e f =
       let shared = both-done (formTest W m) (sharedTest W m) (both-done (sizeTest W) (mapTest W m) e .1) .1 in
       rw (none-over 4 four W n (passed-within W n m shared f))
 
-  pub same-check : checkBefore W n m ≡ inl (checkMap W n m)
-  unfolding checkBefore checkMap
+  pub same-check : checkMapBefore W n m ≡ inl (checkMap W n m)
+  unfolding checkMapBefore checkMap
   same-check = closed (isDone (closedTest W m)) refl
     where
-      counted : isDone (closedTest W m) ≡ true → (t : Bool) → isDone (countsTest W n m) ≡ t → cond t (sumsBefore W n) (inl (countsTest W n m)) ≡ inl (countsTest W n m)
+      counted : isDone (closedTest W m) ≡ true → (t : Bool) → isDone (countsTest W n m) ≡ t → cond t (sumsTestBefore W n) (inl (countsTest W n m)) ≡ inl (countsTest W n m)
       counted e true f = sums-passed e f ∙ ap inl (sym (done-is _ f))
       counted e false f = refl
 
       closed : (t : Bool) → isDone (closedTest W m) ≡ t
-          → cond t (whenDone (countsTest W n m) inl (sumsBefore W n)) (inl (closedTest W m)) ≡ inl (cond t (countsTest W n m) (closedTest W m))
+          → cond t (whenDone (countsTest W n m) inl (sumsTestBefore W n)) (inl (closedTest W m)) ≡ inl (cond t (countsTest W n m) (closedTest W m))
       closed true e = counted e (isDone (countsTest W n m)) refl
       closed false e = refl
 
   -- so that a caller was told the same code and number
-  pub same-told : (codeBefore (checkBefore W n m) ≡ codeOf (checkMap W n m)) × (numberBefore (checkBefore W n m) ≡ numberOf (checkMap W n m))
+  pub same-told : (codeBefore (checkMapBefore W n m) ≡ codeOf (checkMap W n m)) × (numberBefore (checkMapBefore W n m) ≡ numberOf (checkMap W n m))
   same-told = (ap codeBefore same-check, ap numberBefore same-check)

@@ -12,7 +12,7 @@ use Rattle.counting.specs.Lists.{Bytes}
 use Rattle.counting.proofs.Bools.{clear}
 use Rattle.answers.specs.declared.Answer.the-variants.{Done, Room, Spare, Shared, Count}
 use Rattle.answers.specs.Lent.{isDone}
-use Rattle.answers.proofs.Done.{both-done, if-refuses, if-told}
+use Rattle.answers.proofs.Done.{not-done, both-done, if-refuses, if-told}
 use Rattle.wiring.specs.Wiring.{nets, Within, Apart, closedOf}
 use Rattle.wiring.specs.Frame.{four, frame}
 use Rattle.wiring.specs.Map.{closedIn, IsMap, MapCarries}
@@ -91,6 +91,11 @@ module _ (W : ℕ) (n m : List ℕ) where
   -- past 12 and 13 the closed relays carry the job, and what is carried has no side sum above the size
   pub passed-within : isDone (sharedTest W m) ≡ true → isDone (countsTest W n m) ≡ true → Within four W n
   passed-within e f = carried-within (frame W) (frame-proper W) n (closedIn m) (record { counts = counts-right f; apart = shared-apart W m e })
+
+  -- a map that may not be closed is refused for that, whatever its job
+  pub check-first : (closedTest W m ≡ Done → ⊥) → checkMap W n m ≡ closedTest W m
+  unfolding checkMap
+  check-first f = simp (not-done (closedTest W m) f)
 
   -- the map carries the job
   pub record Carried : Type 0 where

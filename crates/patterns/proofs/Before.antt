@@ -12,7 +12,7 @@ use Rattle.answers.specs.declared.Answer.the-variants.{Done, After}
 use Rattle.answers.specs.Lent.{isDone, roomFor, over}
 use Rattle.answers.proofs.Before.{AnswerBefore, whenDoneBefore}
 use Rattle.frame.specs.Leaves.{countList, mapBytes}
-use Rattle.map_check.proofs.Before.{checkBefore, same-check}
+use Rattle.map_check.proofs.Before.{checkMapBefore, same-check}
 use Rattle.fields.specs.declared.Field.{Field}
 use Rattle.fields.specs.declared.Field.the-variants.{There, Faulty}
 use Rattle.fields.specs.Read.{fieldAt, whenThere}
@@ -26,34 +26,34 @@ use Rattle.patterns.specs.Read.{part, noPattern, checkJob, mapAt, readPa
 use Rattle.patterns.specs.Write.{patternAnswer, patternRoom}
 
 abbrev checkJobBefore : Job → List ℕ → AnswerBefore
-checkJobBefore j map = checkBefore (j .size) (countList (j .counts)) map
+checkJobBefore j map = checkMapBefore (j .size) (countList (j .counts)) map
 
 -- ---- reading
 
 -- what a read gave: today's, with an answer of that table
-pub record ReadBefore : Type 0 where
+pub record PatternReadBefore : Type 0 where
   pub answer : AnswerBefore
   pub job : Job
   pub start : ℕ
   pub len : ℕ
 
-abbrev pub noPatternBefore : AnswerBefore → ReadBefore
+abbrev pub noPatternBefore : AnswerBefore → PatternReadBefore
 noPatternBefore a = record { answer = a; job = emptyJob; start = 0; len = 0 }
 
-unfoldable pub mapAtBefore : List ℕ → Job → ℕ → ReadBefore
+unfoldable pub mapAtBefore : List ℕ → Job → ℕ → PatternReadBefore
 mapAtBefore s j start =
     let m : ℕ = mapBytes (j .size) in
     cond (ltb (start + m) (length s)) (noPatternBefore (inl (After (start + m))))
     (whenDoneBefore (checkJobBefore j (part s start m)) noPatternBefore
     (record { answer = inl Done; job = j; start = start; len = m }))
 
-unfoldable pub readBefore : List ℕ → ReadBefore
-readBefore s =
+unfoldable pub readPatternBefore : List ℕ → PatternReadBefore
+readPatternBefore s =
     whenBegun (readHead s) (λ a. noPatternBefore (inl a)) (λ j next.
     whenThere (fieldAt s next 3 (mapBytes (j .size))) (λ a. noPatternBefore (inl a)) (λ start. mapAtBefore s j start))
 
 -- today's read among those
-abbrev pub asBefore : PatternRead → ReadBefore
+abbrev pub asBefore : PatternRead → PatternReadBefore
 asBefore r = record { answer = inl (r .answer); job = r .job; start = r .start; len = r .len }
 
 module _ (s : List ℕ) where
@@ -71,8 +71,8 @@ module _ (s : List ℕ) where
       ways false true = refl
       ways false false = refl
 
-  pub same-read : readBefore s ≡ asBefore (readPattern s)
-  unfolding readBefore readPattern
+  pub same-read : readPatternBefore s ≡ asBefore (readPattern s)
+  unfolding readPatternBefore readPattern
   same-read = begun (readHead s)
     where
       third : (j : Job) (f : Field)
@@ -88,15 +88,15 @@ module _ (s : List ℕ) where
 
 -- ---- writing
 
-unfoldable pub answerBefore : Job → List ℕ → List ℕ → AnswerBefore
-answerBefore j map room = whenDoneBefore (checkJobBefore j map) (λ a. a) (inl (roomFor (length (patternRecord j map)) room))
+unfoldable pub patternAnswerBefore : Job → List ℕ → List ℕ → AnswerBefore
+patternAnswerBefore j map room = whenDoneBefore (checkJobBefore j map) (λ a. a) (inl (roomFor (length (patternRecord j map)) room))
 
-unfoldable pub roomBefore : Job → List ℕ → List ℕ → List ℕ
-roomBefore j map room = whenDoneBefore (answerBefore j map room) (λ a. room) (over (patternRecord j map) room)
+unfoldable pub patternRoomBefore : Job → List ℕ → List ℕ → List ℕ
+patternRoomBefore j map room = whenDoneBefore (patternAnswerBefore j map room) (λ a. room) (over (patternRecord j map) room)
 
 module _ (j : Job) (map room : List ℕ) where
-  pub same-answer : answerBefore j map room ≡ inl (patternAnswer j map room)
-  unfolding answerBefore patternAnswer
+  pub same-answer : patternAnswerBefore j map room ≡ inl (patternAnswer j map room)
+  unfolding patternAnswerBefore patternAnswer
   same-answer =
       rw (same-check (j .size) (countList (j .counts)) map)
       (ways (isDone (checkJob j map)) (checkJob j map) (roomFor (length (patternRecord j map)) room))
@@ -105,6 +105,6 @@ module _ (j : Job) (map room : List ℕ) where
       ways true check fits = refl
       ways false check fits = refl
 
-  pub same-room : roomBefore j map room ≡ patternRoom j map room
-  unfolding roomBefore patternRoom
+  pub same-room : patternRoomBefore j map room ≡ patternRoom j map room
+  unfolding patternRoomBefore patternRoom
   same-room = rw same-answer
