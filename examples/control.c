@@ -3,7 +3,8 @@
  *
  *     control SIZE N1 N2 N3 N4 N5 N6
  *
- * prints the map in hex, or refuses loudly: a message on standard error and exit status 1.
+ * prints the map in hex, or refuses loudly: a message on standard error, with all overfull banks if there are any, and
+ * exit status 1.
  */
 #include <stdio.h>
 #include <stdlib.h>
@@ -13,6 +14,20 @@
 static void refuse(const char *step, uint32_t code, uint32_t number)
 {
     fprintf(stderr, "control: %s refused: code %u, number %u (%s)\n", step, code, number, frame_code_text(code));
+    exit(1);
+}
+
+/* All overfull banks in one message, each with what it is asked for, so that the plan is put right at once. */
+static void refuse_overfull(uint16_t size, uint32_t number, const uint32_t sums[4])
+{
+    static const char *const banks[4] = {"left (gauges)", "top (echo targets)", "right (counters)", "bottom (loads)"};
+    fprintf(stderr, "control: the router refused: ");
+    for (int i = 0; i < 4; i++) {
+        if (number & FRAME_SIDE_BIT(i + 1)) {
+            fprintf(stderr, "%s is asked for %u nets, %u too many; ", banks[i], sums[i], sums[i] - size);
+        }
+    }
+    fprintf(stderr, "the size is %u (code %d, number %u)\n", size, FRAME_OVERFULL, number);
     exit(1);
 }
 
@@ -32,7 +47,7 @@ int main(int argc, char **argv)
 {
     uint16_t n[7];
     uint8_t map[FRAME_MOST_MAP];
-    uint32_t code, number;
+    uint32_t code, number, sums[4];
 
     if (argc != 8) {
         fprintf(stderr, "usage: control SIZE N1 N2 N3 N4 N5 N6\n");
@@ -41,7 +56,10 @@ int main(int argc, char **argv)
     for (int i = 0; i < 7; i++) {
         n[i] = word(argv[i + 1]);
     }
-    code = frame_route(n[0], n[1], n[2], n[3], n[4], n[5], n[6], map, sizeof map, &number);
+    code = frame_route(n[0], n[1], n[2], n[3], n[4], n[5], n[6], map, sizeof map, sums, &number);
+    if (code == FRAME_OVERFULL) {
+        refuse_overfull(n[0], number, sums);
+    }
     if (code != FRAME_DONE) {
         refuse("the router", code, number);
     }

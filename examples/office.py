@@ -6,8 +6,9 @@ A planner's list of jobs to maps. Each line of JOBS (standard input if there is 
     SIZE N1 N2 N3 N4 N5 N6
 
 Empty lines and those that begin with # are left out. A line comes out for each job: the line's number, then the map in
-hex, or REFUSED, the code, its number, and what it means. Exit status 0: every job has a map; 1: some were refused;
-2: wrong use, or a line that is no job, and then nothing is written for it or what follows.
+hex, or REFUSED, the code, its number, and what it means; every side that is asked for too many nets is named with its
+sum. Exit status 0: every job has a map; 1: some were refused; 2: wrong use, or a line that is no job, and then nothing
+is written for it or what follows.
 
 The library is the shared one of `make install`, by its soname, or FILE.
 """
@@ -15,8 +16,10 @@ import ctypes
 import sys
 
 DONE = 0
+OVERFULL = 3
+SIDES = ("left", "top", "right", "bottom")
 MOST_MAP = 48
-SERIES = 4  # the second number of the version that this program was written for
+SERIES = 5  # the second number of the version that this program was written for
 SONAME = f"libylvanteri_frame.so.0.{SERIES}"
 
 
@@ -28,22 +31,29 @@ class Frame:
         if library.frame_version() // 100 != SERIES:
             raise OSError(f"{file}: version {library.frame_version()}, and not 0.{SERIES}")
         self._route = library.frame_route
-        self._route.argtypes = [ctypes.c_uint16] * 7 + [ctypes.c_char_p, ctypes.c_size_t, ctypes.POINTER(ctypes.c_uint32)]
+        numbers = ctypes.POINTER(ctypes.c_uint32)
+        self._route.argtypes = [ctypes.c_uint16] * 7 + [ctypes.c_char_p, ctypes.c_size_t, numbers, numbers]
         self._route.restype = ctypes.c_uint32
         self._text = library.frame_code_text
         self._text.argtypes = [ctypes.c_uint32]
         self._text.restype = ctypes.c_char_p
         self._room = ctypes.create_string_buffer(MOST_MAP)
+        self._sums = (ctypes.c_uint32 * 4)()
         self._number = ctypes.c_uint32()
 
     def route(self, size, counts):
-        """The code, the number, and on done the map."""
-        code = self._route(size, *counts, self._room, MOST_MAP, ctypes.byref(self._number))
+        """The code, the number, the four sums, and on done the map."""
+        code = self._route(size, *counts, self._room, MOST_MAP, self._sums, ctypes.byref(self._number))
         length = (6 * size + 7) // 8 if code == DONE else 0
-        return code, self._number.value, self._room.raw[:length]
+        return code, self._number.value, tuple(self._sums), self._room.raw[:length]
 
-    def text(self, code):
-        return self._text(code).decode("ascii")
+    def words(self, code, number, sums):
+        """What a refusal means."""
+        text = self._text(code).decode("ascii")
+        if code != OVERFULL:
+            return text
+        overfull = [f"{SIDES[i]} {sums[i]}" for i in range(4) if number >> i & 1]
+        return f"{text}: {', '.join(overfull)}"
 
 
 def job(line):
@@ -64,12 +74,12 @@ def plan(frame, lines, out):
             size, counts = job(line)
         except ValueError as fault:
             raise ValueError(f"line {at}: {fault}: {line.strip()}") from None
-        code, number, closed = frame.route(size, counts)
+        code, number, sums, closed = frame.route(size, counts)
         if code == DONE:
             out.write(f"{at} {closed.hex(' ').upper()}\n")
         else:
             refused += 1
-            out.write(f"{at} REFUSED {code} {number}: {frame.text(code)}\n")
+            out.write(f"{at} REFUSED {code} {number}: {frame.words(code, number, sums)}\n")
     return refused
 
 

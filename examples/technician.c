@@ -64,8 +64,8 @@ static void print_added(const struct bench *b, uint16_t type, uint16_t relay)
 /* A job of n[0] to n[5] nets of types 1 to 6, and the test that every map has to pass before it is closed. */
 static void start(struct bench *b, const uint16_t n[6])
 {
-    uint32_t number;
-    uint32_t code = frame_route(b->size, n[0], n[1], n[2], n[3], n[4], n[5], b->map, sizeof b->map, &number);
+    uint32_t number, sums[4]; /* control.c names the overfull sides with their sums; the code's words are enough here */
+    uint32_t code = frame_route(b->size, n[0], n[1], n[2], n[3], n[4], n[5], b->map, sizeof b->map, sums, &number);
     must_be_done("the router", code, number);
     print_map(b);
     printf("routed, size %u: %u %u %u %u %u %u nets of types 1 to 6\n", b->size, n[0], n[1], n[2], n[3], n[4], n[5]);

@@ -44,11 +44,11 @@ extern "C" {
 /*
  * The version of this header. Its first number stays 0 while declarations still change, until the fourteen requests
  * have landed: each change of a declaration raises the second number, and with it the shared library's soname,
- * libylvanteri_frame.so.0.4; the third counts what changes no declaration. A program that was compiled with one second
+ * libylvanteri_frame.so.0.5; the third counts what changes no declaration. A program that was compiled with one second
  * number must not be run with the library of another: see frame_version.
  */
 #define FRAME_VERSION_MAJOR 0
-#define FRAME_VERSION_MINOR 4
+#define FRAME_VERSION_MINOR 5
 #define FRAME_VERSION_PATCH 0
 #define FRAME_VERSION (FRAME_VERSION_MAJOR * 10000 + FRAME_VERSION_MINOR * 100 + FRAME_VERSION_PATCH)
 
@@ -76,10 +76,8 @@ enum frame_code {
     FRAME_DONE = 0,             /* done: 0 */
     FRAME_WRONG_SIZE = 1,       /* size not 1 to 64: the size */
     FRAME_WRONG_ROOM = 2,       /* room too short, or map not of the exact length: the length needed */
-    FRAME_OVERFULL_L = 3,       /* left side asked for more nets than the size: its sum */
-    FRAME_OVERFULL_T = 4,       /* top side asked for more nets than the size: its sum */
-    FRAME_OVERFULL_R = 5,       /* right side asked for more nets than the size: its sum */
-    FRAME_OVERFULL_B = 6,       /* bottom side asked for more nets than the size: its sum */
+    FRAME_OVERFULL = 3,         /* one or more sides asked for more nets than the size: the sum of 1, 2, 4, 8 for L, T, R, B */
+                                /* 4, 5, 6: retired, not used again */
     FRAME_RECORD_CUT = 7,       /* record ends inside a field or where a field must start: the offset of that field */
     FRAME_WRONG_TAG = 8,        /* wrong tag: the offset of that field */
     FRAME_WRONG_LENGTH = 9,     /* wrong length: the offset of that field */
@@ -101,10 +99,7 @@ static inline const char *frame_code_text(uint32_t code)
     case FRAME_DONE: return "done";
     case FRAME_WRONG_SIZE: return "size not 1 to 64";
     case FRAME_WRONG_ROOM: return "room too short, or map not of the exact length";
-    case FRAME_OVERFULL_L: return "left side asked for more nets than the size";
-    case FRAME_OVERFULL_T: return "top side asked for more nets than the size";
-    case FRAME_OVERFULL_R: return "right side asked for more nets than the size";
-    case FRAME_OVERFULL_B: return "bottom side asked for more nets than the size";
+    case FRAME_OVERFULL: return "one or more sides asked for more nets than the size";
     case FRAME_RECORD_CUT: return "record ends inside a field or where a field must start";
     case FRAME_WRONG_TAG: return "wrong tag";
     case FRAME_WRONG_LENGTH: return "wrong length";
@@ -119,18 +114,26 @@ static inline const char *frame_code_text(uint32_t code)
     }
 }
 
-/* The version of the library that is linked, as FRAME_VERSION has it: 400 is 0.4.0. */
+/* The version of the library that is linked, as FRAME_VERSION has it: 500 is 0.5.0. */
 uint32_t frame_version(void);
+
+/*
+ * The bit of a side, 1 to 4 for L, T, R, B as in a terminal, in the number beside FRAME_OVERFULL: set if the side is
+ * overfull. Its sum is sums[side - 1].
+ */
+#define FRAME_SIDE_BIT(side) (1u << ((side) - 1))
 
 /*
  * Picks the relays for a job. The room may be longer than the map: on FRAME_DONE its first FRAME_MAP_BYTES(size)
  * bytes are the map, whatever they held before, and the rest is unchanged. On a refusal all of it is unchanged.
- * room and number must not overlap. Counts are 16 bits: 65537 in an int arrives as 1.
- * Codes in this order: 1, 2, 3 to 6; of several overfull sides the first of L, T, R, B is told. The same job always
- * gives the same map.
+ * With FRAME_OVERFULL the number tells all overfull sides, and sums[0] to sums[3] are the nets that L, T, R, B are
+ * asked for, those that are not overfull too. With any other code, FRAME_DONE too, all four are 0: sums is always
+ * written. room, sums and number must not overlap. Counts are 16 bits: 65537 in an int arrives as 1.
+ * Codes in this order: 1, 2, 3. The same job always gives the same map.
  */
 FRAME_NODISCARD uint32_t frame_route(uint16_t size, uint16_t n1, uint16_t n2, uint16_t n3, uint16_t n4,
-                                     uint16_t n5, uint16_t n6, uint8_t *room, size_t room_len, uint32_t *number);
+                                     uint16_t n5, uint16_t n6, uint8_t *room, size_t room_len, uint32_t sums[4],
+                                     uint32_t *number);
 
 /*
  * Says whether a map carries a job: of each type as many relays are closed as the job has nets, and no two closed

@@ -1,7 +1,7 @@
 //! Nets added and dropped one by one: a plain set of closed relays.
 
 use crate::check::check_start;
-use crate::frame::{map_bytes, served, set, Relay};
+use crate::frame::{map_bytes, room_for, served, set, Relay};
 use crate::{refuse, Refusal};
 use std::collections::BTreeSet;
 
@@ -16,9 +16,7 @@ impl Bench {
     /// An open frame, or the refusal with a room of this length for its map.
     pub fn open(size: u16, room: usize) -> Result<Bench, Refusal> {
         let w = served(size)?;
-        if room < map_bytes(w) {
-            return refuse(2, map_bytes(w));
-        }
+        room_for(map_bytes(w), room)?;
         let closed = BTreeSet::new();
         Ok(Bench { w, closed })
     }

@@ -26,6 +26,14 @@ pub fn served(size: u16) -> Result<usize, Refusal> {
     }
 }
 
+/// Code 2 for a room that is too short.
+pub fn room_for(needed: usize, room: usize) -> Result<(), Refusal> {
+    if room < needed {
+        return refuse(2, needed);
+    }
+    Ok(())
+}
+
 /// The length of a map.
 pub fn map_bytes(w: usize) -> usize {
     (6 * w).div_ceil(8)

@@ -1,7 +1,7 @@
 //! Readers and writers of job and pattern records.
 
 use crate::check::check_map;
-use crate::frame::{map_bytes, served, Counts};
+use crate::frame::{map_bytes, room_for, served, Counts};
 use crate::{refuse, Refusal};
 
 pub const JOB_BYTES: usize = 19;
@@ -88,9 +88,7 @@ fn job_bytes(size: u16, counts: Counts) -> Vec<u8> {
 /// The record, or the refusal with a room of this length.
 pub fn write_job(size: u16, counts: Counts, room: usize) -> Result<Vec<u8>, Refusal> {
     served(size)?;
-    if room < JOB_BYTES {
-        return refuse(2, JOB_BYTES);
-    }
+    room_for(JOB_BYTES, room)?;
     Ok(job_bytes(size, counts))
 }
 
@@ -102,9 +100,7 @@ pub fn write_pattern(
     room: usize,
 ) -> Result<Vec<u8>, Refusal> {
     check_map(size, counts, map)?;
-    if room < PATTERN_HEAD + map.len() {
-        return refuse(2, PATTERN_HEAD + map.len());
-    }
+    room_for(PATTERN_HEAD + map.len(), room)?;
     let mut record = job_bytes(size, counts);
     put_field(&mut record, 3, map);
     Ok(record)

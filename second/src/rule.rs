@@ -1,7 +1,7 @@
 //! The router: six counts to a map, by the choice rule.
 
-use crate::frame::{map_bytes, served, set, side_sums, Counts, Relay, Terminal};
-use crate::{refuse, Refusal};
+use crate::frame::{map_bytes, room_for, served, set, side_sums, Counts, Relay, Terminal};
+use crate::Refusal;
 
 /// The load table: 56 rows of six numbers.
 pub const LOADS: [u8; 336] = load_table();
@@ -44,18 +44,40 @@ const fn every_side_at_most_two([n1, n2, n3, n4, n5, n6]: [u8; 6]) -> bool {
     n1 + n3 + n6 <= 2 && n2 + n3 + n4 <= 2 && n1 + n4 + n5 <= 2 && n2 + n5 + n6 <= 2
 }
 
-/// The map, or the refusal with a room of this length.
-pub fn route(size: u16, counts: Counts, room: usize) -> Result<Vec<u8>, Refusal> {
-    let w = served(size)?;
-    if room < map_bytes(w) {
-        return refuse(2, map_bytes(w));
+/// Why there is no map. Where sides are overfull, and only there, the sums of
+/// all four sides are told too.
+#[derive(Clone, Copy, Debug, PartialEq, Eq)]
+pub struct NotRouted {
+    pub refusal: Refusal,
+    pub sums: [u32; 4],
+}
+
+impl From<Refusal> for NotRouted {
+    fn from(refusal: Refusal) -> NotRouted {
+        let sums = [0; 4];
+        NotRouted { refusal, sums }
     }
-    for (side, sum) in (0..).zip(side_sums(counts)) {
-        if sum > u32::from(size) {
-            return refuse(3 + side, sum as usize);
-        }
+}
+
+/// The map, or the refusal with a room of this length.
+pub fn route(size: u16, counts: Counts, room: usize) -> Result<Vec<u8>, NotRouted> {
+    let w = served(size)?;
+    room_for(map_bytes(w), room)?;
+    let sums = side_sums(counts);
+    let number = overfull_sides(sums, size);
+    if number != 0 {
+        let refusal = Refusal { code: 3, number };
+        return Err(NotRouted { refusal, sums });
     }
     Ok(chosen_map(w, counts))
+}
+
+/// 1, 2, 4 and 8 for L, T, R and B, added up over those above the size.
+fn overfull_sides(sums: [u32; 4], size: u16) -> u32 {
+    (0..4)
+        .filter(|&side| sums[side] > u32::from(size))
+        .map(|side| 1 << side)
+        .sum()
 }
 
 /// The map that the rule chooses for counts that no side forbids.

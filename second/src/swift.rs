@@ -15,25 +15,25 @@ const TOUCHED: [[u8; 2]; 6] = [
     [0x81, 0x18],
 ];
 
-/// Code and number; with code 0 the first m bytes of the room are the map,
-/// whatever the room held before.
-pub fn route(size: u16, counts: [u16; 6], room: &mut [u8]) -> (u32, u32) {
+/// Code, number and the four side sums, which are 0 but with code 3; with code
+/// 0 the first m bytes of the room are the map, whatever the room held before.
+pub fn route(size: u16, counts: [u16; 6], room: &mut [u8]) -> (u32, u32, [u32; 4]) {
     if !(1..=64).contains(&size) {
-        return (1, size.into());
+        return (1, size.into(), [0; 4]);
     }
     let w = usize::from(size);
     let m = (6 * w).div_ceil(8);
     if room.len() < m {
-        return (2, m as u32);
+        return (2, m as u32, [0; 4]);
     }
     let sums = side_sums(counts.map(u32::from));
-    for (code, sum) in (3..).zip(sums) {
-        if sum > u32::from(size) {
-            return (code, sum);
-        }
+    let [l, t, r, b] = sums.map(|sum| u32::from(sum > u32::from(size)));
+    let overfull = l | t << 1 | r << 2 | b << 3;
+    if overfull != 0 {
+        return (3, overfull, sums);
     }
     close(w, counts.map(|n| n as u8), &mut room[..m]);
-    (0, 0)
+    (0, 0, [0; 4])
 }
 
 fn side_sums([n1, n2, n3, n4, n5, n6]: [u32; 6]) -> [u32; 4] {

@@ -5,15 +5,21 @@ use second::check::check_map;
 use second::frame::{map_bytes, side_sums, Counts, Relay, SIDES};
 use second::listing::listing;
 use second::records::{read_job, read_pattern, write_job, write_pattern, Job, Pattern};
-use second::rule::{route, LOADS};
+use second::rule::{route, NotRouted, LOADS};
 use second::{swift, Refusal};
 use std::collections::BTreeSet;
 
-fn refused<T>(code: u32, number: u32) -> Result<T, Refusal> {
-    Err(Refusal { code, number })
+/// A refusal; the router's with no sums beside it.
+fn refused<T, E: From<Refusal>>(code: u32, number: u32) -> Result<T, E> {
+    Err(Refusal { code, number }.into())
 }
 
-fn routed(size: u16, counts: Counts) -> Result<Vec<u8>, Refusal> {
+fn overfull(number: u32, sums: [u32; 4]) -> Result<Vec<u8>, NotRouted> {
+    let refusal = Refusal { code: 3, number };
+    Err(NotRouted { refusal, sums })
+}
+
+fn routed(size: u16, counts: Counts) -> Result<Vec<u8>, NotRouted> {
     route(size, counts, 48)
 }
 
@@ -27,16 +33,17 @@ fn vectors(highest: u16) -> impl Iterator<Item = Counts> {
 fn bench_examples() {
     let far = 65535;
     assert_eq!(routed(1, [1, 1, 0, 0, 0, 0]), Ok(vec![0x03]));
-    assert_eq!(routed(1, [1, 0, 1, 0, 0, 0]), refused(3, 2));
+    assert_eq!(routed(1, [1, 0, 1, 0, 0, 0]), overfull(1, [2, 1, 1, 0]));
     assert_eq!(routed(2, [0; 6]), Ok(vec![0x00, 0x00]));
     assert_eq!(routed(2, [1, 0, 1, 1, 0, 0]), Ok(vec![0xA1, 0x00]));
     assert_eq!(routed(2, [1, 1, 1, 0, 1, 0]), Ok(vec![0x29, 0x01]));
     assert_eq!(routed(2, [0, 0, 1, 1, 1, 1]), Ok(vec![0x50, 0x09]));
-    assert_eq!(routed(2, [0, 2, 0, 1, 0, 0]), refused(4, 3));
+    assert_eq!(routed(2, [0, 2, 0, 1, 0, 0]), overfull(2, [0, 3, 1, 2]));
     assert_eq!(routed(3, [2, 1, 1, 1, 0, 0]), Ok(vec![0x13, 0x09, 0x00]));
     let full = [vec![0xFF; 16], vec![0x00; 32]].concat();
     assert_eq!(routed(64, [64, 64, 0, 0, 0, 0]), Ok(full));
-    assert_eq!(routed(64, [far, 0, far, 0, 0, far]), refused(3, 196605));
+    let far_sums = [196605, 65535, 65535, 65535];
+    assert_eq!(routed(64, [far, 0, far, 0, 0, far]), overfull(15, far_sums));
     assert_eq!(routed(0, [0; 6]), refused(1, 0));
     assert_eq!(routed(65, [0; 6]), refused(1, 65));
     assert_eq!(route(2, [9; 6], 1), refused(2, 2));
@@ -74,6 +81,8 @@ fn bench_listing() {
     assert_eq!(listing(&[]), "REFUSED 7 0\n");
     let longer = [&record[..], &[0]].concat();
     assert_eq!(listing(&longer), "REFUSED 10 19\n");
+    let top_overfull = [1, 0, 1, 2, 2, 0, 12, 0, 0, 0, 2, 0, 0, 0, 1, 0, 0, 0, 0];
+    assert_eq!(listing(&top_overfull), "REFUSED 3 2 0 3 1 2\n");
 }
 
 #[test]
@@ -163,15 +172,42 @@ fn no_side_sum_above_the_size() {
     }
 }
 
+/// The number beside code 3 has the bits of the overfull sides and no other;
+/// each size has a job for each set of sides.
+#[test]
+fn every_overfull_side_is_told() {
+    for size in [1, 2, 3] {
+        let mut sets = BTreeSet::new();
+        for counts in vectors(size + 1) {
+            let sums = side_sums(counts);
+            let over = sums.map(|sum| sum > size.into());
+            match routed(size, counts) {
+                Ok(_) => assert_eq!(over, [false; 4]),
+                Err(given) => {
+                    let Refusal { code, number } = given.refusal;
+                    let named = std::array::from_fn(|side| number >> side & 1 == 1);
+                    assert_eq!((code, named, given.sums), (3, over, sums));
+                    sets.insert(number);
+                }
+            }
+        }
+        assert!(sets.into_iter().eq(1..=15));
+    }
+}
+
 #[test]
 fn two_routers_agree() {
     for size in 0..=3 {
         for counts in vectors(size + 1) {
             let mut room = [0xA5; 5];
-            let (code, number) = swift::route(size, counts, &mut room);
+            let (code, number, sums) = swift::route(size, counts, &mut room);
+            let refusal = Refusal { code, number };
             match route(size, counts, room.len()) {
-                Ok(map) => assert_eq!(((code, number), &room[..map.len()]), ((0, 0), &map[..])),
-                Err(refusal) => assert_eq!(Refusal { code, number }, refusal),
+                Ok(map) => assert_eq!(
+                    (code, number, sums, &room[..map.len()]),
+                    (0, 0, [0; 4], &map[..])
+                ),
+                Err(plain) => assert_eq!(NotRouted { refusal, sums }, plain),
             }
         }
     }

@@ -13,11 +13,11 @@ static void bench_example(void)
 {
     struct lent l = holding(2, 0, 2);
     uint8_t other[2];
-    uint32_t number;
+    uint32_t number, sums[4];
     l.space[GUARD] = 0x05;
     add(&l, 3, refused(FRAME_NONE_FREE, 3));
     holds(&l, 0x05, 0x00);
-    CHECK(frame_route(2, 1, 1, 1, 0, 0, 0, other, 2, &number) == FRAME_DONE, "number %u", number);
+    CHECK(frame_route(2, 1, 1, 1, 0, 0, 0, other, 2, sums, &number) == FRAME_DONE, "number %u", number);
 }
 
 /*

@@ -136,9 +136,9 @@ static void around(const uint8_t *record, size_t len)
 static void written(uint16_t w, const uint16_t n[6])
 {
     uint8_t map[FRAME_MOST_MAP], space[GUARD + SPACE + GUARD];
-    uint32_t number;
+    uint32_t number, sums[4];
     size_t m = FRAME_MAP_BYTES(w);
-    CHECK(frame_route(w, n[0], n[1], n[2], n[3], n[4], n[5], map, sizeof map, &number) == FRAME_DONE, "size %u", w);
+    CHECK(frame_route(w, n[0], n[1], n[2], n[3], n[4], n[5], map, sizeof map, sums, &number) == FRAME_DONE, "size %u", w);
     for (int pattern = 0; pattern < 2; pattern++) {
         size_t needed = pattern ? FRAME_PATTERN_BYTES(w) : FRAME_JOB_RECORD;
         for (size_t room = 0; room <= SPACE; room++) {

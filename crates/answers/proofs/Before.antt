@@ -3,13 +3,12 @@ use Prim.Native.Nat.{ℕ}
 use mathlib.Core.Logic.{_⊎_, inl, inr}
 use mathlib.Core.Bool.{cond}
 use lib.Dec.{eqb}
-use Rattle.answers.specs.declared.Side.{Side}
 use Rattle.answers.specs.declared.Answer.{Answer}
-use Rattle.answers.specs.Table.{sideNumber, codeOf, numberOf}
+use Rattle.answers.specs.Table.{codeOf, numberOf}
 
--- an answer of that table: one of today's, or row 14, a side sum above the size, with its side
+-- an answer of that table: one of today's, or row 14, a side sum above the size, with its side, 1 to 4 for L, T, R, B
 abbrev pub AnswerBefore : Type 0
-AnswerBefore = Answer ⊎ Side
+AnswerBefore = Answer ⊎ ℕ
 
 abbrev pub codeBefore : AnswerBefore → ℕ
 codeBefore (inl a) = codeOf a
@@ -17,7 +16,7 @@ codeBefore (inr side) = 14
 
 abbrev pub numberBefore : AnswerBefore → ℕ
 numberBefore (inl a) = numberOf a
-numberBefore (inr side) = sideNumber side
+numberBefore (inr side) = side
 
 -- goes on only after done
 abbrev pub whenDoneBefore : {A : Type 0} → AnswerBefore → (AnswerBefore → A) → A → A

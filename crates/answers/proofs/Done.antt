@@ -10,19 +10,11 @@ use denote.Enum.Declared.{Choice, tagOf}
 use borrow.Author.Tests.{ne-eqb, eqb-true, ltb-true}
 use Rattle.answers.proofs.Answer.{the-type, parts, as-values, make, eta}
 use Rattle.answers.proofs.Rows.{tests, passes, each-row, otherTags}
-use Rattle.answers.specs.declared.Side.{Side}
-use Rattle.answers.specs.declared.Side.the-variants.{Left, Top, Right, Bottom}
 use Rattle.answers.specs.declared.Answer.{Answer}
 use Rattle.answers.specs.declared.Answer.the-variants.{Done}
-use Rattle.answers.specs.Table.{overfullCode, codeOf}
+use Rattle.answers.specs.Table.{codeOf}
 use Rattle.answers.specs.Lent.{isDone, andThen}
 use Rattle.counting.proofs.Bools.{clear, fails}
-
-side-coded : (side : Side) → ltb 0 (overfullCode side) ≡ true
-side-coded Left = refl
-side-coded Top = refl
-side-coded Right = refl
-side-coded Bottom = refl
 
 -- an answer is done, or its code is not 0
 abbrev told : Choice parts → Bool
@@ -30,7 +22,7 @@ told (inl done) = true
 told (inr refusal) = ltb 0 (codeOf (make (inr refusal)))
 
 rows-told : tests parts told ≡ passes parts
-rows-told = simp side-coded
+rows-told = refl
 
 done-or-code : (a : Answer) → (a ≡ Done) ⊎ (1 ≤ codeOf a)
 done-or-code a = go (as-values a) (eta a) (each-row parts told rows-told (as-values a))

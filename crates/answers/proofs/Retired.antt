@@ -6,24 +6,15 @@ use borrow.Author.Tests.{not-true}
 use Rattle.counting.specs.Lists.{among}
 use Rattle.answers.proofs.Answer.{parts, as-values, make, eta}
 use Rattle.answers.proofs.Rows.{tests, passes, each-row}
-use Rattle.answers.specs.declared.Side.{Side}
-use Rattle.answers.specs.declared.Side.the-variants.{Left, Top, Right, Bottom}
 use Rattle.answers.specs.declared.Answer.{Answer}
-use Rattle.answers.specs.Table.{overfullCode, codeOf, retiredCodes}
-
-side-in-use : (side : Side) → among (overfullCode side) retiredCodes ≡ false
-unfolding among
-side-in-use Left = refl
-side-in-use Top = refl
-side-in-use Right = refl
-side-in-use Bottom = refl
+use Rattle.answers.specs.Table.{codeOf, retiredCodes}
 
 abbrev inUse : Choice parts → Bool
 inUse row = not (among (codeOf (make row)) retiredCodes)
 
 rows-in-use : tests parts inUse ≡ passes parts
 unfolding among
-rows-in-use = simp side-in-use
+rows-in-use = refl
 
 pub not-retired : (a : Answer) → among (codeOf a) retiredCodes ≡ false
 not-retired a = rw (← eta a) (not-true _ (each-row parts inUse rows-in-use (as-values a)))

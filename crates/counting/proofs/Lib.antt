@@ -4,3 +4,4 @@ pub mod Counting
 pub mod Tally
 pub mod Search
 pub mod Bits
+pub mod Sets

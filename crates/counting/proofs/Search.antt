@@ -87,6 +87,12 @@ first-stops ok k i h = found ok k i (firstFrom i k ok) (first-in ok k i .0) h (f
 pub first-ends : (ok : ℕ → Bool) (k i : ℕ) → i + k ≤ firstFrom i k ok → (m : ℕ) → i ≤ m → m < i + k → ok m ≡ false
 first-ends ok k i h = first-none ok k i (omega (arith, first-in ok k i))
 
+-- tests that agree over the range find the same
+pub first-ext : (f g : ℕ → Bool) (k i : ℕ) → ((m : ℕ) → i ≤ m → m < i + k → f m ≡ g m) → firstFrom i k f ≡ firstFrom i k g
+unfolding firstFrom
+first-ext f g zero i h = refl
+first-ext f g (suc k) i h = rw (h i (omega arith) (omega arith), first-ext f g k (suc i) (λ m a b. h m (omega arith) (omega arith)))
+
 -- some number below m passes
 pub any-of : (m : ℕ) (f : ℕ → Bool) (j : ℕ) → j < m → f j ≡ true → anyBelow m f ≡ true
 unfolding anyBelow

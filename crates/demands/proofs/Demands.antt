@@ -16,8 +16,8 @@ use Rattle.frame.specs.Leaves.{countList}
 use Rattle.router.specs.Route.{relaysFor, mapFor}
 use Rattle.router.specs.Router.{routeAnswer, routeRoom}
 use Rattle.router.proofs.Maps.{relays-below, relays-carry, map-is, map-carries}
-use Rattle.router.proofs.Answering.{routed, answers-done}
-use Rattle.router.proofs.Told.{route-codes, route-told, route-overfull}
+use Rattle.router.proofs.Answering.{route-done, answers-done}
+use Rattle.router.proofs.Told.{route-codes, route-told, route-overfull, route-no-sums}
 use Rattle.map_check.proofs.Meaning.{check-first, check-is, is-check}
 use Rattle.map_check.proofs.Told.{check-codes, check-told}
 use Rattle.jobs.specs.declared.Job.{Job}
@@ -52,9 +52,10 @@ demand-1 = record {
   write-pattern-codes = written-pattern-codes;
   list-codes = list-codes;
   route-told = route-told;
-  overfull-told = route-overfull;
   write-job-told = written-job-told;
   list-told = list-told;
+  overfull-told = route-overfull;
+  no-sums = route-no-sums;
   check-told = check-told;
   check-first = check-first;
   write-pattern-first = written-pattern-first;
@@ -70,19 +71,19 @@ demand-1 = record {
   pattern-reader-refuses = λ s f.
       let e = refused-pattern s f in
       (ap (λ (r : PatternRead). r .job) e, no-map s (readPattern s) (ap (λ (r : PatternRead). r .len) e));
-  no-default = λ W n room e. let r = routed W n room (is-done _ e) in rw (r .front) (map-carries W n (r .within));
+  no-default = λ W n room e. let r = route-done W n room (is-done _ e) in rw (r .front) (map-carries W n (r .within));
 }
 
 pub demand-3 : Demand3
 demand-3 W n room s h = record {
-  done-within = λ e. routed W n room (is-done _ e) .within;
+  done-within = λ e. route-done W n room (is-done _ e) .within;
   within-carried = λ f. ((λ k. among k (relaysFor W n)), relays-carry W n f);
   carried-done = λ c. answers-done W n room (s .0) (s .1) h (carried-within (frame W) (frame-proper W) (countList n) (c .0) (c .1));
 }
 
 -- what the router gives is a pattern
 pub routed-pattern : (W : ℕ) (n : Counts) (room : List ℕ) → routeAnswer W n room ≡ Done → Pattern (record { size = W; counts = n }) (mapFor W n)
-routed-pattern W n room e = let r = routed W n room (is-done _ e) in (r .served, map-is W n (r .within), map-carries W n (r .within))
+routed-pattern W n room e = let r = route-done W n room (is-done _ e) in (r .served, map-is W n (r .within), map-carries W n (r .within))
 
 pattern-passes : (j : Job) (map : List ℕ) → Pattern j map → checkJob j map ≡ Done
 pattern-passes j map p = is-check (j .size) (countList (j .counts)) map (p .0) (p .1) (p .2)
@@ -91,9 +92,9 @@ pub demand-2 : Demand2
 unfolding mapFor textOf
 demand-2 = record {
   pairs = pair-once;
-  chosen = λ W n room closed s h c. let e = demand-3 W n room s h .carried-done (closed, c) in (e, routed W n room (is-done _ e) .after);
+  chosen = λ W n room closed s h c. let e = demand-3 W n room s h .carried-done (closed, c) in (e, route-done W n room (is-done _ e) .after);
   rule-closed = λ W n room k e.
-      let r = routed W n room (is-done _ e) in
+      let r = route-done W n room (is-done _ e) in
       rw (r .front) (rule-closed (frame W .relays) (relaysFor W n) (relays-below W n (r .within)) k);
   pattern-written = λ j map room p h. pattern-is-written j map room (pattern-passes j map p) h;
   job-written = λ j room s h. job-is-written j room s h;

@@ -9,9 +9,8 @@ use lib.Dec.{eqb}
 use lib.ListN.{length, take, drop, replicate}
 use Rattle.counting.specs.Count.{count}
 use Rattle.counting.specs.Lists.{among, Bytes}
-use Rattle.answers.specs.declared.Side.{Side}
 use Rattle.answers.specs.declared.Answer.{Answer}
-use Rattle.answers.specs.declared.Answer.the-variants.{Done, Overfull}
+use Rattle.answers.specs.declared.Answer.the-variants.{Done}
 use Rattle.answers.specs.Table.{codeOf, numberOf, retiredCodes, CodeIn}
 use Rattle.answers.specs.Lent.{over}
 use Rattle.wiring.specs.Wiring.{earlier, later, Within, Carries}
@@ -20,9 +19,11 @@ use Rattle.wiring.specs.Map.{closedIn, IsMap, MapCarries}
 use Rattle.frame.specs.declared.Counts.{Counts}
 use Rattle.frame.specs.Leaves.{countList, mapBytes}
 use Rattle.frame.specs.Tests.{Served}
-use Rattle.frame.specs.Told.{RoomTold, SideTold}
+use Rattle.frame.specs.Told.{RoomTold}
+use Rattle.overfull.specs.Overfull.{noSums}
+use Rattle.overfull.specs.Told.{SidesTold}
 use Rattle.router.specs.Route.{relaysFor, mapFor}
-use Rattle.router.specs.Router.{routeAnswer, routeRoom}
+use Rattle.router.specs.Router.{routeAnswer, routeRoom, routed}
 use Rattle.map_check.specs.Check.{closedTest, checkMap}
 use Rattle.map_check.specs.Told.{MapTold}
 use Rattle.jobs.specs.declared.Job.{Job}
@@ -50,20 +51,22 @@ pub record Demand1 : Type 0 where
   -- and a code that is retired is no answer's
   pub not-retired : (a : Answer) → among (codeOf a) retiredCodes ≡ false
   -- the codes that each call can give
-  pub route-codes : (W : ℕ) (n : Counts) (room : List ℕ) → CodeIn (0 ∷ 1 ∷ 2 ∷ 3 ∷ 4 ∷ 5 ∷ 6 ∷ []) (routeAnswer W n room)
+  pub route-codes : (W : ℕ) (n : Counts) (room : List ℕ) → CodeIn (0 ∷ 1 ∷ 2 ∷ 3 ∷ []) (routeAnswer W n room)
   pub check-codes : (W : ℕ) (n m : List ℕ) → CodeIn (0 ∷ 1 ∷ 2 ∷ 11 ∷ 12 ∷ 13 ∷ []) (checkMap W n m)
   pub read-job-codes : (s : List ℕ) → CodeIn (0 ∷ 1 ∷ 7 ∷ 8 ∷ 9 ∷ 10 ∷ []) (readJob s .answer)
   pub read-pattern-codes : (s : List ℕ) → CodeIn (0 ∷ 1 ∷ 7 ∷ 8 ∷ 9 ∷ 10 ∷ 11 ∷ 12 ∷ 13 ∷ []) (readPattern s .answer)
   pub write-job-codes : (j : Job) (room : List ℕ) → CodeIn (0 ∷ 1 ∷ 2 ∷ []) (jobAnswer j room)
   pub write-pattern-codes : (j : Job) (map room : List ℕ) → CodeIn (0 ∷ 1 ∷ 2 ∷ 11 ∷ 12 ∷ 13 ∷ []) (patternAnswer j map room)
   pub list-codes : (s room : List ℕ) → CodeIn (0 ∷ 2 ∷ []) (listed s room .answer)
-  -- and the number is the table's: the size, the length needed, the first overfull side's own sum ..
+  -- and the number is the table's: the size, the length needed ..
   pub route-told : (W : ℕ) (n : Counts) (room : List ℕ) → RoomTold W (mapBytes W) room (routeAnswer W n room)
-  pub overfull-told : (W : ℕ) (n : Counts) (room : List ℕ) (side : Side) (sum : ℕ) → routeAnswer W n room ≡ Overfull side sum
-      → SideTold W (countList n) side sum
   pub write-job-told : (j : Job) (room : List ℕ) → RoomTold (j .size) (length (jobRecord j)) room (jobAnswer j room)
   pub list-told : (s room : List ℕ) → codeOf (listed s room .answer) ≡ 2
       → (numberOf (listed s room .answer) ≡ mostText) × (length room < mostText)
+  -- .. with code 3, which comes after 1 and 2, all the overfull sides, and the four sums beside it; with any other code, done too, no sum
+  pub overfull-told : (W : ℕ) (n : Counts) (room : List ℕ) → let told = routed W n room in codeOf (told .answer) ≡ 3
+      → Served W × (mapBytes W ≤ length room) × SidesTold W n (numberOf (told .answer)) (told .sums)
+  pub no-sums : (W : ℕ) (n : Counts) (room : List ℕ) → let told = routed W n room in (codeOf (told .answer) ≡ 3 → ⊥) → told .sums ≡ noSums
   -- .. the relay and the type that the map check names; a map that may not be closed is refused for that, whatever its job. The pattern
   -- writer makes the map check first, and then asks for its record's length
   pub check-told : (W : ℕ) (n m : List ℕ) → MapTold W n m (checkMap W n m)

@@ -7,10 +7,11 @@ use Rattle.counting.specs.Lists.{among, distinct}
 use Rattle.wiring.specs.Frame.{typeIn, placeIn}
 use Rattle.wiring.specs.Terminals.{touched}
 use Rattle.wiring.specs.Map.{closedIn, withClosed, withOpen, closeAll, mapOf}
-use Rattle.wiring.specs.Check.{firstOver, spareSet, shares, clashes, clashAt}
+use Rattle.wiring.specs.Check.{overfullSides, spareSet, shares, clashes, clashAt}
 use Rattle.wiring.specs.Change.{isFree, lowestFree}
 use Rattle.frame.specs.Leaves.{counts}
-use Rattle.frame.specs.Tests.{sizeTest, overfullTest}
+use Rattle.frame.specs.Tests.{sizeTest}
+use Rattle.overfull.specs.Overfull.{overfullTest}
 use Rattle.map_check.specs.Check.{formTest, sharedTest, mapTest, closedTest}
 use Rattle.loads.specs.Table.{table, row}
 use Rattle.loads.specs.Load.{within, atMost, fits, pick, load}
@@ -36,5 +37,5 @@ none-for-type-three = (refl, refl, tt)
 
 -- and the job with that net more is one that the router carries, by other relays
 pub carried-otherwise : (routeAnswer 2 (counts 1 1 1 0 0 0) room ≡ Done) × (mapFor 2 (counts 1 1 1 0 0 0) ≡ 0x29 ∷ 0x00 ∷ [])
-unfolding routeAnswer mapFor mapOf relaysFor serve seatedIn takes cells run capacity size centre spread seating seatOf seatFits touched seats netList load pick fits atMost within row table overfullTest firstOver sizeTest closeAll withClosed closedIn placeIn typeIn distinct among anyBelow firstFrom sumTo count
+unfolding routeAnswer mapFor mapOf relaysFor serve seatedIn takes cells run capacity size centre spread seating seatOf seatFits touched seats netList load pick fits atMost within row table overfullTest overfullSides sizeTest closeAll withClosed closedIn placeIn typeIn distinct among anyBelow firstFrom sumTo count
 carried-otherwise = (refl, refl)

@@ -12,19 +12,20 @@ use Rattle.counting.specs.Lists.{among, distinct}
 use Rattle.wiring.specs.Frame.{typeIn, placeIn}
 use Rattle.wiring.specs.Terminals.{touched}
 use Rattle.wiring.specs.Map.{closedIn, withClosed, closeAll, mapOf}
-use Rattle.wiring.specs.Check.{firstOver, spareSet, shares, clashes, clashAt, wrongType}
+use Rattle.wiring.specs.Check.{overfullSides, spareSet, shares, clashes, clashAt, wrongType}
 use Rattle.counting.proofs.Bools.{and-parts, clear}
 use Rattle.answers.specs.Table.{codeOf, numberOf}
-use Rattle.frame.specs.Tests.{sizeTest, overfullTest}
+use Rattle.frame.specs.Tests.{sizeTest}
+use Rattle.overfull.specs.Overfull.{overfullTest, sumsBeside}
 use Rattle.loads.specs.Table.{table, row}
 use Rattle.loads.specs.Load.{within, atMost, fits, pick, load}
 use Rattle.loads.specs.Seat.{netList, seats, seatFits, seatOf, seating}
 use Rattle.cells.specs.Cells.{size, capacity, run, cells}
 use Rattle.cells.specs.Serve.{spread, centre, takes, seatedIn, serve}
 use Rattle.router.specs.Route.{relaysFor, mapFor}
-use Rattle.router.specs.Router.{routeAnswer, routeRoom}
+use Rattle.router.specs.Router.{routeAnswer, routeRoom, routed}
 use Rattle.map_check.specs.Check.{formTest, sharedTest, mapTest, countsTest, closedTest, checkMap}
-use Rattle.examples.specs.Starred.{Example, Holds, answerOf, lentOf, starred}
+use Rattle.examples.specs.Starred.{Example, Holds, answerOf, sumsOf, lentOf, starred}
 
 -- the same bytes
 unfoldable same : List ℕ → List ℕ → Bool
@@ -44,25 +45,29 @@ same-eq (x ∷ xs) (y ∷ ys) e =
     let tail : xs ≡ ys = same-eq xs ys (both .1) in
     cc
 
--- the example's code, number and lent bytes are what they must be
+-- the example's code, number, sums and lent bytes are what they must be
 abbrev rightCode : Example → Bool
 rightCode e = eqb (codeOf (answerOf (e .call) (e .size) (e .job))) (e .code)
 
 abbrev rightNumber : Example → Bool
 rightNumber e = eqb (numberOf (answerOf (e .call) (e .size) (e .job))) (e .number)
 
+abbrev rightSums : Example → Bool
+rightSums e = same (sumsOf (e .call) (e .size) (e .job)) (e .sums)
+
 abbrev rightLent : Example → Bool
 rightLent e = same (lentOf (e .call) (e .size) (e .job)) (e .afterwards)
 
 unfoldable holds : Example → Bool
-holds e = rightCode e && (rightNumber e && rightLent e)
+holds e = rightCode e && (rightNumber e && (rightSums e && rightLent e))
 
 holds-is : (e : Example) → holds e ≡ true → Holds e
 unfolding holds
 holds-is e h =
-    let a = and-parts (rightCode e) (rightNumber e && rightLent e) h in
-    let b = and-parts (rightNumber e) (rightLent e) (a .1) in
-    record { code = eqb-true _ _ (a .0); number = eqb-true _ _ (b .0); afterwards = same-eq _ _ (b .1) }
+    let a = and-parts (rightCode e) (rightNumber e && (rightSums e && rightLent e)) h in
+    let b = and-parts (rightNumber e) (rightSums e && rightLent e) (a .1) in
+    let c = and-parts (rightSums e) (rightLent e) (b .1) in
+    record { code = eqb-true _ _ (a .0); number = eqb-true _ _ (b .0); sums = same-eq _ _ (c .0); afterwards = same-eq _ _ (c .1) }
 
 unfoldable allHold : List Example → Bool
 allHold [] = true
@@ -76,7 +81,7 @@ all-hold (e ∷ es) t (suc i) h other = all-hold es (and-parts (holds e) (allHol
 
 -- the computed test
 passes : allHold starred ≡ true
-unfolding allHold holds same starred routeRoom routeAnswer mapFor mapOf relaysFor serve seatedIn takes cells run capacity size centre spread seating seatOf seatFits touched seats netList load pick fits atMost within row table overfullTest firstOver sizeTest checkMap closedTest countsTest mapTest sharedTest formTest wrongType clashAt clashes shares spareSet closeAll withClosed closedIn placeIn typeIn distinct among anyBelow firstFrom sumTo count
+unfolding allHold holds same starred routeRoom routed routeAnswer mapFor mapOf relaysFor serve seatedIn takes cells run capacity size centre spread seating seatOf seatFits touched seats netList load pick fits atMost within row table overfullTest overfullSides sumsBeside sizeTest checkMap closedTest countsTest mapTest sharedTest formTest wrongType clashAt clashes shares spareSet closeAll withClosed closedIn placeIn typeIn distinct among anyBelow firstFrom sumTo count
 passes = refl
 
 -- The single statement: each example of the list, counted from 0, holds. `other` stands for what would be past the end.

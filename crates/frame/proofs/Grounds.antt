@@ -1,5 +1,5 @@
 -- A size's test and a lent room's, case by case: what holds of done, and of each refusal on its ground, holds of the answer. Assumes nothing.
-use Prim.Native.Nat.{ℕ, _<_}
+use Prim.Native.Nat.{ℕ, _≤_, _<_}
 use mathlib.Core.Path.{_≡_, refl}
 use mathlib.Core.Logic.{⊎-elim}
 use mathlib.Core.List.{List, [], _∷_}
@@ -12,10 +12,11 @@ use Rattle.answers.specs.declared.Answer.{Answer}
 use Rattle.answers.specs.declared.Answer.the-variants.{Done, Size, Room}
 use Rattle.answers.specs.Table.{CodeIn}
 use Rattle.answers.specs.Lent.{andThen, roomFor}
-use Rattle.answers.proofs.Done.{and-then, if-holds}
+use Rattle.answers.proofs.Done.{is-done, and-then, if-holds}
+use Rattle.answers.proofs.Lent.{room-is}
 use Rattle.frame.specs.Tests.{Served, sizeTest}
 use Rattle.frame.specs.Told.{RoomTold}
-use Rattle.frame.proofs.Tests.{size-served, size-tested}
+use Rattle.frame.proofs.Tests.{size-served, size-is, size-tested}
 
 module _ (P : Answer → Type 0) (done : P Done) (W : ℕ) (size : (Served W → ⊥) → P (Size W)) where
   pub size-holds : P (sizeTest W)
@@ -28,9 +29,9 @@ module _ (P : Answer → Type 0) (done : P Done) (W : ℕ) (size : (Served W →
     pub asked-holds : P (andThen (sizeTest W) (roomFor needed room))
     asked-holds = and-then P _ _ size-holds (λ s. room-holds)
 
-    -- a job's tests come last
-    pub routed-holds : (job : Answer) → P job → P (andThen (sizeTest W) (andThen (roomFor needed room) job))
-    routed-holds job p = and-then P _ _ size-holds (λ s. and-then P _ _ room-holds (λ r. p))
+    -- a job's tests come last: the size is served then, and the room long enough
+    pub routed-holds : (job : Answer) → (Served W → needed ≤ length room → P job) → P (andThen (sizeTest W) (andThen (roomFor needed room) job))
+    routed-holds job p = and-then P _ _ size-holds (λ s. and-then P _ _ room-holds (λ r. p (size-is W (is-done _ s)) (room-is needed room (is-done _ r))))
 
 -- so of a size and a room: the codes, and what their numbers tell
 module _ (W needed : ℕ) (room : List ℕ) where
@@ -42,7 +43,7 @@ module _ (W needed : ℕ) (room : List ℕ) where
   routed-told job p =
       routed-holds (RoomTold W needed room) (record { code1 = λ x. absurd (omega arith); code2 = λ x. absurd (omega arith) }) W
       (λ s. record { code1 = λ x. (refl, s); code2 = λ x. absurd (omega arith) }) needed room
-      (λ e. record { code1 = λ x. absurd (omega arith); code2 = λ x. (refl, e) }) job p
+      (λ e. record { code1 = λ x. absurd (omega arith); code2 = λ x. (refl, e) }) job (λ s r. p)
 
   pub asked-told : RoomTold W needed room (andThen (sizeTest W) (roomFor needed room))
   asked-told =

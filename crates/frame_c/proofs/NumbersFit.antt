@@ -3,20 +3,20 @@ use Prim.Native.Nat.{ℕ, _<_}
 use mathlib.Core.Path.{_≡_}
 use mathlib.Core.List.{List}
 use native.Mathlib.Omega.{arith}
-use lib.Dec.{leb}
+use lib.Dec.{eqb}
 use Rattle.answers.specs.declared.Answer.{Answer}
 use Rattle.answers.specs.declared.Answer.the-variants.{Overfull}
-use Rattle.answers.specs.Table.{sideOf, numberOf}
-use Rattle.answers.proofs.Done.{if-holds}
-use Rattle.wiring.specs.Wiring.{sideSum}
+use Rattle.answers.specs.Table.{numberOf}
+use Rattle.answers.proofs.Done.{unless-holds}
 use Rattle.wiring.specs.Frame.{four}
+use Rattle.wiring.specs.Check.{overfullSides}
 use Rattle.wiring.specs.Calls.{adding, dropping}
-use Rattle.wiring.proofs.Frame.{within-four}
+use Rattle.wiring.proofs.Overfull.{sides-below}
 use Rattle.frame.specs.declared.Counts.{Counts}
 use Rattle.frame.specs.Leaves.{countList, mapBytes}
-use Rattle.frame.specs.Tests.{overAt, overfullTest}
 use Rattle.frame.proofs.Grounds.{asked-holds, routed-holds}
-use Rattle.router.specs.Router.{routeAnswer}
+use Rattle.overfull.specs.Overfull.{overfullTest}
+use Rattle.router.specs.Router.{routeAnswer, routed}
 use Rattle.map_check.proofs.Grounds.{Refusals}
 use Rattle.map_check.proofs.Checked.{closed-mild}
 use Rattle.changes.specs.Start.{openAnswer, startTest}
@@ -27,25 +27,15 @@ use Rattle.changes.proofs.Answers.{add-holds, drop-holds}
 abbrev pub Fits32 : Answer → Type 0
 Fits32 a = numberOf a < 4294967296
 
--- counts as they are handed in
-pub record Small (n : Counts) : Type 0 where
-  pub s1 : n .n1 < 65536
-  pub s2 : n .n2 < 65536
-  pub s3 : n .n3 < 65536
-  pub s4 : n .n4 < 65536
-  pub s5 : n .n5 < 65536
-  pub s6 : n .n6 < 65536
-
--- so every side sum fits
-over-fits : (W : ℕ) (n : Counts) → Small n → Fits32 (overfullTest W (countList n))
+-- the sum of 1, 2, 4, 8 is at most 15
+over-fits : (W : ℕ) (n : List ℕ) → Fits32 (overfullTest W n)
 unfolding overfullTest
-over-fits W n h =
-    if-holds (leb (overAt W (countList n)) 4) (Overfull (sideOf (overAt W (countList n))) (sideSum four (countList n) (overAt W (countList n)))) Fits32
-    (λ e. omega (arith, within-four 196605 (countList n) (omega arith) (overAt W (countList n)))) (omega arith)
+over-fits W n =
+    unless-holds (eqb (overfullSides four 4 W n) 0) (Overfull (overfullSides four 4 W n)) Fits32 (omega (arith, sides-below four 4 W n)) (omega arith)
 
-pub route-fits : (W : ℕ) (n : Counts) (room : List ℕ) → W < 65536 → Small n → Fits32 (routeAnswer W n room)
-unfolding routeAnswer
-route-fits W n room h s = routed-holds Fits32 (omega arith) W (λ e. omega arith) (mapBytes W) room (λ e. omega arith) (overfullTest W (countList n)) (over-fits W n s)
+pub route-fits : (W : ℕ) (n : Counts) (room : List ℕ) → W < 65536 → Fits32 (routed W n room .answer)
+unfolding routed routeAnswer
+route-fits W n room h = routed-holds Fits32 (omega arith) W (λ e. omega arith) (mapBytes W) room (λ e. omega arith) _ (λ s r. over-fits W (countList n))
 
 -- nets one by one
 pub open-fits : (W : ℕ) (room : List ℕ) → W < 65536 → Fits32 (openAnswer W room)

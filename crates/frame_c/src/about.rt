@@ -21,7 +21,7 @@ fn end_told(t: Terminal) -> [u16; 2]
 pub extern "C" fn frame_version() -> u32
     ensures { λ r. ⌜ r ≡ version ⌝ }
 {
-    400
+    500
 }
 
 #[no_mangle]

@@ -18,9 +18,9 @@ use Rattle.frame.specs.declared.Counts.{Counts}
 use Rattle.frame.specs.Leaves.{countList}
 use Rattle.jobs.specs.declared.Job.{Job}
 use Rattle.router.specs.Route.{mapFor}
-use Rattle.router.specs.Router.{routeAnswer}
+use Rattle.router.specs.Router.{routeAnswer, routed}
 use Rattle.router.proofs.Maps.{map-carries}
-use Rattle.router.proofs.Answering.{routed}
+use Rattle.router.proofs.Answering.{route-done}
 use Rattle.text.specs.Decimal.{decimal}
 use Rattle.text.proofs.Decimal.{decimal-digits}
 use Rattle.listing.specs.Lines.{lf, total, letter, terminalText, netLine, netLines, sizeLine, mapText}
@@ -77,7 +77,7 @@ pub nets-routed : (W : ℕ) (n : Counts) (room : List ℕ) → isDone (routeAnsw
 unfolding sumTo
 nets-routed W n room e =
     let closed : ℕ → Bool = closedIn (mapFor W n) in
-    let sum = carried-sum (frame W) (frame-proper W) (countList n) closed (map-carries W n (routed W n room e .within)) (λ c. true) in
+    let sum = carried-sum (frame W) (frame-proper W) (countList n) closed (map-carries W n (route-done W n room e .within)) (λ c. true) in
     let all = count-ext (frame W .relays) closed (λ k. closed k && true) (λ k h. sym (and-true (closed k))) in
     omega arith
 
@@ -87,7 +87,7 @@ pub record NetsListed (j : Job) : Type 0 where
   pub lines : lineEnds (netLines (j .size) (mapFor (j .size) (j .counts)) (frame (j .size) .relays)) ≡ total (j .counts)
 
 pub nets-listed : (j : Job) → isDone (routeAnswer (j .size) (j .counts) (replicate 48 0)) ≡ true → NetsListed j
-unfolding jobText mapText
+unfolding jobText mapText routed
 nets-listed j e =
     let n = nets-routed (j .size) (j .counts) (replicate 48 0) e in
     record { text = rw (e, n); lines = ends-nets _ _ _ ∙ n }

@@ -2,10 +2,11 @@
 use Prim.Native.Nat.{ℕ, zero, suc, _+_, _*_, _-_, _≤_, _<_}
 use mathlib.Core.Path.{_≡_, refl, sym}
 use mathlib.Core.Bool.{true, false}
-use mathlib.Core.List.{List, [], _∷_, _++_, append-nil}
+use mathlib.Core.List.{List, [], _∷_, _++_, append-nil, append-assoc}
 use native.Mathlib.Omega.{arith}
 use native.Mathlib.Numerals.{add-one}
 use lib.ListN.{length, length-append, List·getD-eq-default}
+use borrow.Author.Tests.{eq-eqb, ne-eqb}
 use Rattle.answers.specs.declared.Answer.{Answer}
 use Rattle.answers.specs.Table.{codeOf, numberOf}
 use Rattle.counting.specs.Count.{count}
@@ -18,10 +19,11 @@ use Rattle.frame.specs.declared.Terminal.{Terminal}
 use Rattle.frame.specs.declared.Terminals.the-variants.{Joined}
 use Rattle.frame.specs.Leaves.{sorted, terminalsOf}
 use Rattle.frame.proofs.Ends.{ends-are, sorted-there}
+use Rattle.overfull.specs.declared.Sums.{Sums}
 use Rattle.text.specs.Decimal.{decimal}
 use Rattle.text.specs.Wrote.{Wrote}
 use Rattle.text.proofs.Stores.{wrote-none, wrote-append}
-use Rattle.listing.specs.Lines.{space, lf, refusedWord, letter, terminalText, netLine, netLines, sizeLine, mapText, refusedText}
+use Rattle.listing.specs.Lines.{space, lf, refusedWord, letter, terminalText, netLine, netLines, sizeLine, mapText, spaced, sumsAfter, refusedText}
 
 -- no side past B
 pub letter-none : (s : ℕ) → 5 ≤ s → 0 ≡ letter s
@@ -35,14 +37,29 @@ pub size-length : (W n : ℕ) → length (sizeLine W n) ≡ 5 + (length (decimal
 unfolding sizeLine
 size-length W n = simp length-append (omega arith)
 
--- a refusal's line by its code and number
-pub record IsRefused (a : Answer) (code number : ℕ) : Type 0 where
-  pub line : refusedText a ≡ refusedWord ++ (decimal code ++ (space ∷ decimal number ++ (lf ∷ [])))
-  pub long : length (refusedText a) ≡ 8 + (length (decimal code) + (1 + (length (decimal number) + 1)))
+-- the four sums follow, one after the other, or nothing does
+pub sums-other : (code : ℕ) (sums : Sums) → (code ≡ 3 → ⊥) → spaced (sumsAfter code sums) ≡ []
+unfolding spaced
+sums-other code sums h = rw (ne-eqb code 3 h)
 
-pub is-refused : (a : Answer) (code number : ℕ) → code ≡ codeOf a → number ≡ numberOf a → IsRefused a code number
-unfolding refusedText
-is-refused a code number p q = rw (p, q) (record { line = refl; long = simp length-append (omega arith) })
+pub record IsSums (code : ℕ) (sums : Sums) : Type 0 where
+  pub text : spaced (sumsAfter code sums)
+      ≡ (space ∷ decimal (sums .left)) ++ ((space ∷ decimal (sums .top)) ++ ((space ∷ decimal (sums .right)) ++ (space ∷ decimal (sums .bottom))))
+  pub long : length (spaced (sumsAfter code sums))
+      ≡ 1 + length (decimal (sums .left)) + (1 + length (decimal (sums .top)) + (1 + length (decimal (sums .right)) + (1 + length (decimal (sums .bottom)))))
+
+pub is-sums : (code : ℕ) (sums : Sums) → code ≡ 3 → IsSums code sums
+unfolding spaced
+is-sums code sums h = record { text = rw (eq-eqb code 3 h, append-nil (decimal (sums .bottom))); long = rw (eq-eqb code 3 h) (simp length-append (omega arith)) }
+
+-- a refusal's line by its code and number
+pub record IsRefused (a : Answer) (sums : Sums) (code number : ℕ) : Type 0 where
+  pub line : refusedText a sums ≡ refusedWord ++ ((space ∷ decimal code) ++ ((space ∷ decimal number) ++ (spaced (sumsAfter code sums) ++ (lf ∷ []))))
+  pub long : length (refusedText a sums) ≡ 7 + (1 + length (decimal code) + (1 + length (decimal number) + (length (spaced (sumsAfter code sums)) + 1)))
+
+pub is-refused : (a : Answer) (sums : Sums) (code number : ℕ) → code ≡ codeOf a → number ≡ numberOf a → IsRefused a sums code number
+unfolding refusedText spaced
+is-refused a sums code number p q = rw (p, q) (record { line = simp append-assoc; long = simp length-append (omega arith) })
 
 -- relay k is of type c and joins a and b: its line by these
 pub record IsNet (W k c : ℕ) (a b : Terminal) : Type 0 where

@@ -1,6 +1,6 @@
 -- Laws of the text by what was read and routed, and of the room that it is made in. Assumes nothing.
 use Prim.Native.Nat.{ℕ, _+_, _≤_, _<_}
-use mathlib.Core.Path.{_≡_, refl, ap, _∙_}
+use mathlib.Core.Path.{_≡_, refl, sym, ap, _∙_}
 use mathlib.Core.Bool.{Bool, true, false, cond}
 use mathlib.Core.List.{List, [], _∷_, _++_}
 use native.Mathlib.Omega.{arith}
@@ -8,20 +8,21 @@ use lib.Dec.{ltb}
 use lib.ListN.{length, take, drop, replicate, length-append}
 use lib.Seq.{sets-eq, take-at}
 use borrow.Author.Tests.{ltb-true, ltb-false, lt-ltb, le-ltb}
-use Rattle.answers.specs.declared.Answer.{Answer}
 use Rattle.answers.specs.declared.Answer.the-variants.{Done, Room}
 use Rattle.answers.specs.Lent.{isDone, roomFor}
 use Rattle.answers.specs.Table.{codeOf, numberOf, CodeIn}
 use Rattle.answers.proofs.Done.{is-done, not-done, if-holds}
 use Rattle.counting.specs.Lists.{among}
 use Rattle.frame.specs.Leaves.{mapBytes}
+use Rattle.overfull.specs.Overfull.{noSums}
 use Rattle.jobs.specs.declared.Job.{Job}
 use Rattle.jobs.specs.declared.JobRead.{JobRead}
 use Rattle.jobs.specs.Read.{readJob}
 use Rattle.router.specs.Route.{mapFor}
-use Rattle.router.specs.Router.{routeAnswer, routeRoom}
+use Rattle.router.specs.declared.Routed.{Routed}
+use Rattle.router.specs.Router.{routeRoom, routed}
 use Rattle.router.proofs.Maps.{map-length}
-use Rattle.router.proofs.Answering.{routed}
+use Rattle.router.proofs.Answering.{route-done}
 use Rattle.text.specs.Wrote.{Wrote}
 use Rattle.listing.specs.declared.Listed.{Listed}
 use Rattle.listing.specs.Lines.{mapText, refusedText}
@@ -34,27 +35,31 @@ pub record Mapped (j : Job) (n : ℕ) (lent : List ℕ) : Type 0 where
   pub long : n ≡ length (take n lent)
   pub text : jobText j ≡ mapText (j .size) (take n lent)
 
-module _ (j : Job) (a : Answer) (p : a ≡ routeAnswer (j .size) (j .counts) (replicate 48 0)) where
-  pub job-refused : isDone a ≡ false → jobText j ≡ refusedText a
+module _ (j : Job) (told : Routed) (p : told ≡ routed (j .size) (j .counts) (replicate 48 0)) where
+  pub job-refused : isDone (told .answer) ≡ false → jobText j ≡ refusedText (told .answer) (told .sums)
   unfolding jobText
   job-refused h = rw (← p, h)
 
-  pub job-mapped : (n : ℕ) (lent : List ℕ) → a ≡ Done → n ≡ mapBytes (j .size) → lent ≡ routeRoom (j .size) (j .counts) (replicate 48 0) → Mapped j n lent
+  job-done : told .answer ≡ Done → jobText j ≡ mapText (j .size) (mapFor (j .size) (j .counts))
   unfolding jobText
+  job-done z = rw (← p, z)
+
+  pub job-mapped : (n : ℕ) (lent : List ℕ) → told .answer ≡ Done → n ≡ mapBytes (j .size) → lent ≡ routeRoom (j .size) (j .counts) (replicate 48 0) → Mapped j n lent
+  unfolding routed
   job-mapped n lent z e l =
-      let d = is-done a z in
-      let r = routed (j .size) (j .counts) (replicate 48 0) (rw p at d) in
+      let d = is-done (told .answer) z in
+      let r = route-done (j .size) (j .counts) (replicate 48 0) (rw p at d) in
       let m = map-length (j .size) (j .counts) in
       let rest : List ℕ = drop (mapBytes (j .size)) (replicate 48 0) in
       let front : take n lent ≡ mapFor (j .size) (j .counts) = ap (take n) (l ∙ r .after) ∙ take-at (mapFor (j .size) (j .counts)) rest n (omega arith) in
       record {
         within = omega (arith, ap length (l ∙ r .after), length-append (mapFor (j .size) (j .counts)) rest);
         long = omega (arith, ap length front);
-        text = rw (← p, d, front);
+        text = job-done z ∙ ap (mapText (j .size)) (sym front);
       }
 
 module _ (s : List ℕ) (r : JobRead) (p : r ≡ readJob s) where
-  pub text-refused : isDone (r .answer) ≡ false → textOf s ≡ refusedText (r .answer)
+  pub text-refused : isDone (r .answer) ≡ false → textOf s ≡ refusedText (r .answer) noSums
   unfolding textOf
   text-refused h = rw (← p, h)
 

@@ -2,6 +2,7 @@
 use Prim.Native.Nat.{ℕ, zero, suc, _+_, _-_}
 use mathlib.Core.Bool.{cond}
 use mathlib.Core.List.{List, [], _∷_, _++_}
+use lib.Dec.{eqb}
 use lib.ListN.{getD}
 use Rattle.answers.specs.declared.Answer.{Answer}
 use Rattle.answers.specs.Table.{codeOf, numberOf}
@@ -10,6 +11,8 @@ use Rattle.wiring.specs.Wiring.{fromSide, toSide}
 use Rattle.wiring.specs.Frame.{typeIn, frame}
 use Rattle.wiring.specs.Map.{closedIn}
 use Rattle.frame.specs.declared.Counts.{Counts}
+use Rattle.overfull.specs.declared.Sums.{Sums}
+use Rattle.overfull.specs.Overfull.{sumList}
 use Rattle.text.specs.Decimal.{decimal}
 
 abbrev pub space : ℕ
@@ -18,7 +21,7 @@ space = 32
 abbrev pub lf : ℕ
 lf = 10
 
--- "SIZE ", " NETS " and "REFUSED "
+-- "SIZE ", " NETS " and "REFUSED"
 abbrev pub sizeWord : List ℕ
 sizeWord = 83 ∷ 73 ∷ 90 ∷ 69 ∷ space ∷ []
 
@@ -26,7 +29,7 @@ abbrev pub netsWord : List ℕ
 netsWord = space ∷ 78 ∷ 69 ∷ 84 ∷ 83 ∷ space ∷ []
 
 abbrev pub refusedWord : List ℕ
-refusedWord = 82 ∷ 69 ∷ 70 ∷ 85 ∷ 83 ∷ 69 ∷ 68 ∷ space ∷ []
+refusedWord = 82 ∷ 69 ∷ 70 ∷ 85 ∷ 83 ∷ 69 ∷ 68 ∷ []
 
 -- L, T, R, B for sides 1 to 4
 abbrev pub letter : ℕ → ℕ
@@ -61,6 +64,15 @@ sizeLine W nets = sizeWord ++ (decimal W ++ (netsWord ++ (decimal nets ++ (lf �
 unfoldable pub mapText : ℕ → List ℕ → List ℕ
 mapText W m = sizeLine W (count (frame W .relays) (closedIn m)) ++ netLines W m (frame W .relays)
 
--- a refusal: code and number
-unfoldable pub refusedText : Answer → List ℕ
-refusedText a = refusedWord ++ (decimal (codeOf a) ++ (space ∷ decimal (numberOf a) ++ (lf ∷ [])))
+-- numbers, each with a space before it
+unfoldable pub spaced : List ℕ → List ℕ
+spaced [] = []
+spaced (n ∷ ns) = space ∷ decimal n ++ spaced ns
+
+-- the four sums where the code is 3, else nothing
+abbrev pub sumsAfter : ℕ → Sums → List ℕ
+sumsAfter code sums = cond (eqb code 3) (sumList sums) []
+
+-- a refusal: code and number, and where the code is 3 the sums
+unfoldable pub refusedText : Answer → Sums → List ℕ
+refusedText a sums = refusedWord ++ (spaced (codeOf a ∷ numberOf a ∷ sumsAfter (codeOf a) sums) ++ (lf ∷ []))

@@ -6,14 +6,17 @@ ghost use lib.ListN.{length};
 ghost use Rattle.counting.specs.Count.{count};
 ghost use Rattle.wiring.specs.Frame.{frame};
 ghost use Rattle.wiring.specs.Map.{closedIn};
+ghost use Rattle.text.specs.Decimal.{decimal};
 ghost use Rattle.text.specs.Wrote.{Wrote};
-ghost use Rattle.listing.specs.Lines.{space, letter, terminalText, netLine, netLines, sizeLine, mapText, refusedText};
+ghost use Rattle.listing.specs.Lines.{space, letter, terminalText, netLine, netLines, sizeLine, mapText};
+ghost use Rattle.listing.specs.Lines.{spaced, sumsAfter, refusedText};
 ghost use Rattle.listing.specs.Listing.{jobText, textOf, listed, listedRoom};
 use answers::Answer;
 use frame::Sorted;
 use frame::Terminal;
 use frame::Terminals;
 use jobs::Job;
+use overfull::Sums;
 
 // How the text was made: done with its length, or a room that is too short and no text.
 pub struct Listed {
@@ -118,17 +121,40 @@ fn put_map(room: &mut [u8], at: usize, size: u16, map: &[u8]) -> usize
     put_nets(room, next, size, map)
 }
 
-// The line of a refusal: code and number.
-fn put_refused(room: &mut [u8], at: usize, a: Answer) -> usize
-    requires { ⌜ at + length (refusedText a) ≤ length (now room) ⌝ }
-    ensures { λ r. ⌜ Wrote (now (room .entry)) at (refusedText a) (now (room .exit)) r ⌝ }
+// A space and a number.
+fn put_number(room: &mut [u8], at: usize, n: u64) -> usize
+    requires { ⌜ at + length (space ∷ decimal n) ≤ length (now room) ⌝ }
+    ensures { λ r. ⌜ Wrote (now (room .entry)) at (space ∷ decimal n) (now (room .exit)) r ⌝ }
 {
-    let code = answers::code(a) as u64;
+    let next = text::put_byte(room, at, b' ');
+    text::put_decimal(room, next, n)
+}
+
+// The four sums where the code is 3, else nothing.
+fn put_sums(room: &mut [u8], at: usize, code: u32, sums: Sums) -> usize
+    requires { ⌜ at + length (spaced (sumsAfter code sums)) ≤ length (now room) ⌝ }
+    ensures { λ r. ⌜ Wrote (now (room .entry)) at (spaced (sumsAfter code sums)) (now (room .exit)) r ⌝ }
+{
+    if code != 3 {
+        return at;
+    }
+    let next = put_number(room, at, sums.left as u64);
+    let next = put_number(room, next, sums.top as u64);
+    let next = put_number(room, next, sums.right as u64);
+    put_number(room, next, sums.bottom as u64)
+}
+
+// The line of a refusal: code and number, and where the code is 3 the sums.
+fn put_refused(room: &mut [u8], at: usize, a: Answer, sums: Sums) -> usize
+    requires { ⌜ at + length (refusedText a sums) ≤ length (now room) ⌝ }
+    ensures { λ r. ⌜ Wrote (now (room .entry)) at (refusedText a sums) (now (room .exit)) r ⌝ }
+{
+    let code = answers::code(a);
     let number = answers::number(a);
-    let next = text::put_bytes(room, at, b"REFUSED ");
-    let next = text::put_decimal(room, next, code);
-    let next = text::put_byte(room, next, b' ');
-    let next = text::put_decimal(room, next, number);
+    let next = text::put_bytes(room, at, b"REFUSED");
+    let next = put_number(room, next, code as u64);
+    let next = put_number(room, next, number);
+    let next = put_sums(room, next, code, sums);
     text::put_byte(room, next, b'\n')
 }
 
@@ -138,9 +164,10 @@ fn put_job(room: &mut [u8], job: Job) -> usize
     ensures { λ r. ⌜ Wrote (now (room .entry)) 0 (jobText job) (now (room .exit)) r ⌝ }
 {
     let mut map = [0u8; 48];
-    let answer = router::route(job.size, job.counts, &mut map);
+    let routed = router::route(job.size, job.counts, &mut map);
+    let answer = routed.answer;
     let Answer::Done = answer else {
-        return put_refused(room, 0, answer);
+        return put_refused(room, 0, answer, routed.sums);
     };
     let n = frame::map_length(job.size);
     put_map(room, 0, job.size, &map[..n])
@@ -154,7 +181,7 @@ fn put_text(room: &mut [u8], input: &[u8]) -> usize
     let read = jobs::read_job(input);
     let answer = read.answer;
     let Answer::Done = answer else {
-        return put_refused(room, 0, answer);
+        return put_refused(room, 0, answer, overfull::no_sums());
     };
     put_job(room, read.job)
 }

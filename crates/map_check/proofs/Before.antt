@@ -7,19 +7,19 @@ use mathlib.Core.Bool.{Bool, true, false, cond}
 use mathlib.Core.List.{List}
 use lib.Dec.{leb}
 use Rattle.answers.specs.declared.Answer.the-variants.{Done}
-use Rattle.answers.specs.Table.{sideOf, codeOf, numberOf}
+use Rattle.answers.specs.Table.{codeOf, numberOf}
 use Rattle.answers.specs.Lent.{isDone, whenDone}
 use Rattle.answers.proofs.Done.{done-is, both-done}
 use Rattle.answers.proofs.Before.{AnswerBefore, codeBefore, numberBefore}
 use Rattle.wiring.specs.Frame.{four}
-use Rattle.wiring.proofs.Frame.{none-over}
-use Rattle.frame.specs.Tests.{sizeTest, overAt}
+use Rattle.wiring.proofs.Overfull.{firstOver, none-over}
+use Rattle.frame.specs.Tests.{sizeTest}
 use Rattle.map_check.specs.Check.{formTest, sharedTest, mapTest, countsTest, closedTest, checkMap}
 use Rattle.map_check.proofs.Meaning.{passed-within}
 
 -- code 14: the first side, in the order L, T, R, B, that is asked for more than W nets
 unfoldable pub sumsTestBefore : ℕ → List ℕ → AnswerBefore
-sumsTestBefore W n = cond (leb (overAt W n) 4) (inr (sideOf (overAt W n))) (inl Done)
+sumsTestBefore W n = cond (leb (firstOver four 4 W n) 4) (inr (firstOver four 4 W n)) (inl Done)
 
 -- the order 1, 2, 11, 12, 13, 14
 unfoldable pub checkMapBefore : ℕ → List ℕ → List ℕ → AnswerBefore
@@ -30,7 +30,7 @@ module _ (W : ℕ) (n m : List ℕ) where
   unfolding sumsTestBefore closedTest mapTest
   sums-passed e f =
       let shared = both-done (formTest W m) (sharedTest W m) (both-done (sizeTest W) (mapTest W m) e .1) .1 in
-      rw (none-over 4 four W n (passed-within W n m shared f))
+      rw (none-over four 4 W n (passed-within W n m shared f))
 
   pub same-check : checkMapBefore W n m ≡ inl (checkMap W n m)
   unfolding checkMapBefore checkMap

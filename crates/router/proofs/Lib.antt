@@ -4,3 +4,4 @@ pub mod Blocks
 pub mod Serving
 pub mod Answering
 pub mod Told
+pub mod Before

@@ -14,10 +14,17 @@ ghost use Rattle.loads.specs.Seated.{netTypes, Nets};
 ghost use Rattle.cells.specs.Cells.{capacity, cells, without};
 ghost use Rattle.cells.specs.Serve.{lowHigh, spread, centre, serve};
 ghost use Rattle.router.specs.Route.{relaysFor};
-ghost use Rattle.router.specs.Router.{routeAnswer, routeRoom};
+ghost use Rattle.router.specs.Router.{routeAnswer, routeRoom, routed};
 use answers::Answer;
 use frame::Counts;
 use loads::Seated;
+use overfull::Sums;
+
+// What the router gives back beside the room: its answer, and with code 3 what the job asks of each side.
+pub struct Routed {
+    pub answer: Answer,
+    pub sums: Sums,
+}
 
 // Closes the relay of a net of a type that is seated low (0) or high (1) in the block with low position p.
 fn close_net(room: &mut [u8], w: usize, p: usize, kind: u8, high: u64)
@@ -107,8 +114,8 @@ fn close_all(room: &mut [u8], w: usize, counts: Counts)
     close_cells(room, w, 0, w, counts);
 }
 
-// Picks the relays for a job and writes their map at the start of the room.
-pub fn route(size: u16, counts: Counts, room: &mut [u8]) -> Answer
+// The tests one after the other; past them the map is written at the start of the room.
+fn write_map(size: u16, counts: Counts, room: &mut [u8]) -> Answer
     ensures { λ r. ⌜ r ≡ routeAnswer size counts (now (room .entry)) ⌝ }
     ensures { λ _. ⌜ now (room .exit) ≡ routeRoom size counts (now (room .entry)) ⌝ }
 {
@@ -120,11 +127,23 @@ pub fn route(size: u16, counts: Counts, room: &mut [u8]) -> Answer
     if room.len() < bytes {
         return Answer::Room(bytes);
     }
-    let over = frame::test_overfull(size, counts);
+    let over = overfull::test_overfull(size, counts);
     let Answer::Done = over else {
         return over;
     };
     maps::clear(room, bytes);
     close_all(room, size as usize, counts);
     Answer::Done
+}
+
+// Picks the relays for a job and writes their map at the start of the room, or tells why there is none.
+pub fn route(size: u16, counts: Counts, room: &mut [u8]) -> Routed
+    ensures { λ r. ⌜ r ≡ routed size counts (now (room .entry)) ⌝ }
+    ensures { λ _. ⌜ now (room .exit) ≡ routeRoom size counts (now (room .entry)) ⌝ }
+{
+    let answer = write_map(size, counts, room);
+    Routed {
+        answer,
+        sums: overfull::sums_beside(answer, counts),
+    }
 }

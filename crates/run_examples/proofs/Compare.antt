@@ -1,4 +1,4 @@
--- Laws of the comparisons: an answer by its code and its number, and a room byte by byte. Assumes nothing.
+-- Laws of the comparisons: an answer by its code and its number, four sums, and a room byte by byte. Assumes nothing.
 use Prim.Native.Nat.{ℕ, zero, suc, _+_, _≤_, _<_}
 use mathlib.Core.Path.{_≡_, refl, sym, ap, _∙_}
 use mathlib.Core.Bool.{Bool, true, false, _&&_}
@@ -11,13 +11,28 @@ use lib.Seq.{drop-nil}
 use borrow.Author.Tests.{eq-eqb, ne-eqb}
 use Rattle.answers.specs.declared.Answer.{Answer}
 use Rattle.answers.specs.Table.{codeOf, numberOf}
-use Rattle.run_examples.specs.Compare.{given, stands}
+use Rattle.overfull.specs.declared.Sums.{Sums}
+use Rattle.run_examples.specs.Compare.{given, sameSums, stands}
 
 pub other-code : (a : Answer) (r code number : ℕ) → r ≡ codeOf a → (r ≡ code → ⊥) → false ≡ given a code number
 other-code a r code number e n = rw (ne-eqb (codeOf a) code (λ p. n (e ∙ p)))
 
 pub that-code : (a : Answer) (r code s number : ℕ) → r ≡ codeOf a → r ≡ code → s ≡ numberOf a → eqb s number ≡ given a code number
 that-code a r code s number e p q = rw (eq-eqb (codeOf a) code (sym e ∙ p), q)
+
+-- four sums one after the other: the first that differs decides
+module _ (a b : Sums) where
+  pub left-differs : (a .left ≡ b .left → ⊥) → false ≡ sameSums a b
+  left-differs l = rw (ne-eqb (a .left) (b .left) l)
+
+  pub top-differs : a .left ≡ b .left → (a .top ≡ b .top → ⊥) → false ≡ sameSums a b
+  top-differs l t = rw (eq-eqb (a .left) (b .left) l, ne-eqb (a .top) (b .top) t)
+
+  pub right-differs : a .left ≡ b .left → a .top ≡ b .top → (a .right ≡ b .right → ⊥) → false ≡ sameSums a b
+  right-differs l t r = rw (eq-eqb (a .left) (b .left) l, eq-eqb (a .top) (b .top) t, ne-eqb (a .right) (b .right) r)
+
+  pub bottom-decides : a .left ≡ b .left → a .top ≡ b .top → a .right ≡ b .right → eqb (a .bottom) (b .bottom) ≡ sameSums a b
+  bottom-decides l t r = rw (eq-eqb (a .left) (b .left) l, eq-eqb (a .top) (b .top) t, eq-eqb (a .right) (b .right) r)
 
 -- a place within the list: what would be past its end plays no part
 pub getD-within : (l : List ℕ) (i d other : ℕ) → i < length l → getD l i d ≡ getD l i other

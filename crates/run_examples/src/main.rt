@@ -3,11 +3,13 @@
 // hold.
 ghost use mathlib.Core.Path.{_≡_};
 ghost use lib.ListN.{getD};
-ghost use Rattle.run_examples.specs.Compare.{given, stands};
+ghost use Rattle.run_examples.specs.Compare.{given, sameSums, stands};
 use answers::Answer;
 use changes::Added;
 use frame::Counts;
 use libc::STDOUT_FILENO;
+use overfull::Sums;
+use router::Routed;
 
 // What a room holds before it is lent. No map below has this byte, so it shows what was written and what was left alone.
 const FILL: u8 = 0xA5;
@@ -86,13 +88,27 @@ fn say_call(right: bool, call: &[u8], size: u16, n: Counts) {
     say_count(n.n6);
 }
 
-// Ends a line with the code and the number that must come back.
-fn say_refusal(code: u32, number: u64) {
+// The code and the number that must come back.
+fn say_code(code: u32, number: u64) {
     say(b" gives code ");
     say_number(code as u64);
     say(b", number ");
     say_number(number);
-    say(b"\n");
+}
+
+// The sums beside them, where the code is 3.
+fn say_sums(code: u32, sums: Sums) {
+    if code != 3 {
+        return;
+    }
+    say(b", sums ");
+    say_number(sums.left as u64);
+    say(b" ");
+    say_number(sums.top as u64);
+    say(b" ");
+    say_number(sums.right as u64);
+    say(b" ");
+    say_number(sums.bottom as u64);
 }
 
 // Does the answer have this code and this number?
@@ -103,6 +119,28 @@ fn is(answer: Answer, code: u32, number: u64) -> bool
         return false;
     }
     answers::number(answer) == number
+}
+
+// Are these the same four sums?
+fn same_sums(a: Sums, b: Sums) -> bool
+    ensures { λ r. ⌜ r ≡ sameSums a b ⌝ }
+{
+    if a.left != b.left {
+        return false;
+    }
+    if a.top != b.top {
+        return false;
+    }
+    if a.right != b.right {
+        return false;
+    }
+    a.bottom == b.bottom
+}
+
+// Did the router give this code, this number and these sums?
+fn gave(told: Routed, code: u32, number: u64, sums: Sums) -> bool {
+    let answer = told.answer;
+    is(answer, code, number) && same_sums(told.sums, sums)
 }
 
 // The byte that must stand in the room at a place: the map's, and past the map what the room was filled with.
@@ -135,8 +173,8 @@ fn stands_in(room: &[u8], map: &[u8]) -> bool
 // The router must be done, and this be the map.
 fn routed(tally: Tally, size: u16, n: Counts, map: &[u8]) -> Tally {
     let mut room = [FILL; 48];
-    let answer = router::route(size, n, &mut room);
-    let right = is(answer, 0, 0) && stands_in(&room, map);
+    let told = router::route(size, n, &mut room);
+    let right = gave(told, 0, 0, overfull::no_sums()) && stands_in(&room, map);
     say_call(right, b"route", size, n);
     say(b" gives");
     say_map(map);
@@ -144,7 +182,7 @@ fn routed(tally: Tally, size: u16, n: Counts, map: &[u8]) -> Tally {
     counted(tally, right)
 }
 
-// The router must refuse, with this code and number, and leave all of the room as it was.
+// The router must refuse, with this code, number and sums, and leave all of the room as it was.
 fn refused_in(
     tally: Tally,
     call: &[u8],
@@ -153,17 +191,36 @@ fn refused_in(
     room: &mut [u8],
     code: u32,
     number: u64,
+    sums: Sums,
 ) -> Tally {
-    let answer = router::route(size, n, room);
-    let right = is(answer, code, number) && stands_in(room, b"");
+    let told = router::route(size, n, room);
+    let right = gave(told, code, number, sums) && stands_in(room, b"");
     say_call(right, call, size, n);
-    say_refusal(code, number);
+    say_code(code, number);
+    say_sums(code, sums);
+    say(b"\n");
     counted(tally, right)
 }
 
+// It must refuse so with any code but 3, which has the sums beside it.
 fn refused(tally: Tally, size: u16, n: Counts, code: u32, number: u64) -> Tally {
     let mut room = [FILL; 48];
-    refused_in(tally, b"route", size, n, &mut room, code, number)
+    refused_in(
+        tally,
+        b"route",
+        size,
+        n,
+        &mut room,
+        code,
+        number,
+        overfull::no_sums(),
+    )
+}
+
+// It must find these sides overfull, and tell the four sums.
+fn overfull_at(tally: Tally, size: u16, n: Counts, sides: u64, sums: Sums) -> Tally {
+    let mut room = [FILL; 48];
+    refused_in(tally, b"route", size, n, &mut room, 3, sides, sums)
 }
 
 // The map check must refuse this map, with this code and number.
@@ -173,15 +230,17 @@ fn faulty(tally: Tally, size: u16, n: Counts, map: &[u8], code: u32, number: u64
     say_call(right, b"check", size, n);
     say(b" with");
     say_map(map);
-    say_refusal(code, number);
+    say_code(code, number);
+    say(b"\n");
     counted(tally, right)
 }
 
 // The router must be done at size 2, and the map check be done with its map.
 fn carried(tally: Tally, n: Counts) -> Tally {
     let mut room = [FILL; 2];
-    let answer = router::route(2, n, &mut room);
-    let right = is(answer, 0, 0) && is(map_check::check_map(2, n, &room), 0, 0);
+    let told = router::route(2, n, &mut room);
+    let right = gave(told, 0, 0, overfull::no_sums())
+        && is(map_check::check_map(2, n, &room), 0, 0);
     say_call(right, b"Table I", 2, n);
     say(b" is routed and passes the check\n");
     counted(tally, right)
@@ -246,16 +305,26 @@ fn drops(tally: Tally, map: &mut [u8], relay: u16, code: u32, number: u64, left:
     counted(tally, right)
 }
 
+// Four sums, L, T, R, B.
+fn sums(left: u32, top: u32, right: u32, bottom: u32) -> Sums {
+    Sums {
+        left,
+        top,
+        right,
+        bottom,
+    }
+}
+
 // The scope's table, sizes 1 to 3.
 fn small_sizes(before: Tally) -> Tally {
     let mut tally = before;
     tally = routed(tally, 1, frame::six(1, 1, 0, 0, 0, 0), b"\x03");
-    tally = refused(tally, 1, frame::six(1, 0, 1, 0, 0, 0), 3, 2);
+    tally = overfull_at(tally, 1, frame::six(1, 0, 1, 0, 0, 0), 1, sums(2, 1, 1, 0));
     tally = routed(tally, 2, frame::six(0, 0, 0, 0, 0, 0), b"\x00\x00");
     tally = routed(tally, 2, frame::six(1, 0, 1, 1, 0, 0), b"\xA1\x00");
     tally = routed(tally, 2, frame::six(1, 1, 1, 0, 1, 0), b"\x29\x01");
     tally = routed(tally, 2, frame::six(0, 0, 1, 1, 1, 1), b"\x50\x09");
-    tally = refused(tally, 2, frame::six(0, 2, 0, 1, 0, 0), 4, 3);
+    tally = overfull_at(tally, 2, frame::six(0, 2, 0, 1, 0, 0), 2, sums(0, 3, 1, 2));
     routed(tally, 3, frame::six(2, 1, 1, 1, 0, 0), b"\x13\x09\x00")
 }
 
@@ -267,12 +336,12 @@ fn other_sizes(before: Tally) -> Tally {
         \x00\x00\x00\x00\x00\x00\x00\x00\x00\x00\x00\x00\x00\x00\x00\x00\
         \x00\x00\x00\x00\x00\x00\x00\x00\x00\x00\x00\x00\x00\x00\x00\x00";
     tally = routed(tally, 64, frame::six(64, 64, 0, 0, 0, 0), straight);
-    tally = refused(
+    tally = overfull_at(
         tally,
         64,
         frame::six(65535, 0, 65535, 0, 0, 65535),
-        3,
-        196605,
+        15,
+        sums(196605, 65535, 65535, 65535),
     );
     tally = refused(tally, 0, frame::six(0, 0, 0, 0, 0, 0), 1, 0);
     refused(tally, 65, frame::six(0, 0, 0, 0, 0, 0), 1, 65)
@@ -290,6 +359,7 @@ fn below_the_table(before: Tally) -> Tally {
         &mut byte,
         2,
         2,
+        overfull::no_sums(),
     );
     tally = faulty(tally, 2, frame::six(1, 0, 1, 0, 0, 0), b"\x11\x00", 12, 4);
     tally = faulty(tally, 2, frame::six(0, 1, 0, 0, 0, 0), b"\x01\x00", 13, 1);

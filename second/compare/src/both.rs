@@ -2,13 +2,15 @@
 //! of what both give.
 
 use crate::lent::{hex, Lent};
-use crate::library::{Answer, Library, Read};
+use crate::library::{Answer, Library, Read, Routed};
 use crate::maps::Question;
 use crate::prng::Prng;
 use crate::tally::Tally;
 use second::frame::Counts;
 use second::records::{self, JOB_BYTES, PATTERN_HEAD};
-use second::{check, rule, swift, Refusal};
+use second::rule::{self, NotRouted};
+use second::{check, swift, Refusal};
+use std::fmt::Debug;
 
 /// A difference as text, with the whole input and both answers.
 pub type Compared = Result<(), String>;
@@ -26,7 +28,18 @@ pub(crate) fn answer_of<T>(result: &Result<T, Refusal>) -> Answer {
     }
 }
 
-fn written(result: &Result<Vec<u8>, Refusal>) -> &[u8] {
+fn routed_of(result: &Result<Vec<u8>, NotRouted>) -> Routed {
+    let (answered, sums) = match *result {
+        Ok(_) => (Ok(()), [0; 4]),
+        Err(NotRouted { refusal, sums }) => (Err(refusal), sums),
+    };
+    Routed {
+        answer: answer_of(&answered),
+        sums,
+    }
+}
+
+fn written<E>(result: &Result<Vec<u8>, E>) -> &[u8] {
     result.as_deref().unwrap_or(&[])
 }
 
@@ -52,38 +65,43 @@ impl Both {
         }
     }
 
-    /// Compares a call that writes a room; the plain program's result is what
-    /// the room must begin with.
-    fn room_call(
+    /// Compares a call that writes a room; the plain program says what it gives
+    /// and what the room must begin with.
+    fn room_call<A: Copy + Debug + PartialEq + Into<Answer>>(
         &mut self,
         entry: &'static str,
         input: String,
-        plain: &Result<Vec<u8>, Refusal>,
+        (plain, written): (A, &[u8]),
         len: usize,
-        call: impl Fn(&Library, &mut [u8]) -> Answer,
+        call: impl Fn(&Library, &mut [u8]) -> A,
     ) -> Compared {
         let mut room = Lent::room(&mut self.rng, len);
-        let answer = call(&self.library, room.slice_mut());
+        let given = call(&self.library, room.slice_mut());
+        let answer: Answer = given.into();
         self.tally.code(entry, answer.code);
-        if answer == answer_of(plain) && room.holds_just(written(plain)) {
+        if given == plain && room.holds_just(written) {
             return Ok(());
         }
         Err(format!(
-            "{entry}\n{input}\nroom of {}\nlibrary: {answer:?}\nplain:   {:?}, room begins with [{}]\n{:?}",
+            "{entry}\n{input}\nroom of {}\nlibrary: {given:?}\nplain:   {plain:?}, room begins with [{}]\n{:?}",
             room.describe(),
-            answer_of(plain),
-            hex(written(plain)),
+            hex(written),
             self.library,
         ))
     }
 
     pub fn route(&mut self, size: u16, counts: Counts, len: usize) -> Compared {
         let input = format!("size {size}, counts {counts:?}");
-        let plain = rule::route(size, counts, len);
-        self.room_call("frame_route", input, &plain, len, |library, room| {
+        let result = rule::route(size, counts, len);
+        let plain = (routed_of(&result), written(&result));
+        self.room_call("frame_route", input, plain, len, |library, room| {
             library.route(size, counts, room)
         })?;
-        self.swift_route(size, counts, len, &plain)
+        let Answer { code, number } = plain.0.answer;
+        if code == 3 {
+            self.tally.overfull(number);
+        }
+        self.swift_route(size, counts, len, plain)
     }
 
     /// The router of the measurement gives what the plain one gives.
@@ -92,11 +110,12 @@ impl Both {
         size: u16,
         counts: Counts,
         len: usize,
-        plain: &Result<Vec<u8>, Refusal>,
+        (plain, written): (Routed, &[u8]),
     ) -> Compared {
         let mut room = Lent::room(&mut self.rng, len);
-        let (code, number) = swift::route(size, counts, room.slice_mut());
-        if (Answer { code, number }) == answer_of(plain) && room.holds_just(written(plain)) {
+        let (code, number, sums) = swift::route(size, counts, room.slice_mut());
+        let answer = Answer { code, number };
+        if (Routed { answer, sums }) == plain && room.holds_just(written) {
             return Ok(());
         }
         Err(format!(
@@ -194,11 +213,12 @@ impl Both {
 
     pub fn write_job(&mut self, size: u16, counts: Counts, len: usize) -> Compared {
         let input = format!("size {size}, counts {counts:?}");
-        let plain = records::write_job(size, counts, len);
-        self.room_call("frame_write_job", input, &plain, len, |library, room| {
+        let result = records::write_job(size, counts, len);
+        let plain = (answer_of(&result), written(&result));
+        self.room_call("frame_write_job", input, plain, len, |library, room| {
             library.write_job(size, counts, room)
         })?;
-        match plain {
+        match result {
             // The library wrote these same bytes; both readers take them back.
             Ok(record) => self.read_back(&record, size, counts, &[]),
             Err(_) => Ok(()),
@@ -208,22 +228,19 @@ impl Both {
     pub fn write_pattern(&mut self, question: &Question, len: usize) -> Compared {
         let Question { size, counts, map } = question;
         let input = format!("size {size}, counts {counts:?}, map [{}]", hex(map));
-        let plain = records::write_pattern(*size, *counts, map, len);
+        let result = records::write_pattern(*size, *counts, map, len);
+        let plain = (answer_of(&result), written(&result));
         let lent = Lent::holding(&mut self.rng, map);
-        self.room_call(
-            "frame_write_pattern",
-            input,
-            &plain,
-            len,
-            |library, room| library.write_pattern(*size, *counts, lent.slice(), room),
-        )?;
+        self.room_call("frame_write_pattern", input, plain, len, |library, room| {
+            library.write_pattern(*size, *counts, lent.slice(), room)
+        })?;
         if !lent.unchanged() {
             return Err(format!(
                 "frame_write_pattern changed its map of {}",
                 lent.describe()
             ));
         }
-        match plain {
+        match result {
             Ok(record) => self.read_back(&record, *size, *counts, map),
             Err(_) => Ok(()),
         }

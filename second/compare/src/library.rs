@@ -14,6 +14,7 @@ extern "C" {
         n6: u16,
         room: *mut u8,
         room_len: usize,
+        sums: *mut u32,
         number: *mut u32,
     ) -> u32;
 
@@ -130,6 +131,19 @@ pub struct Answer {
     pub number: u32,
 }
 
+/// All that the router gives beside the map.
+#[derive(Clone, Copy, Debug, PartialEq, Eq)]
+pub struct Routed {
+    pub answer: Answer,
+    pub sums: [u32; 4],
+}
+
+impl From<Routed> for Answer {
+    fn from(routed: Routed) -> Answer {
+        routed.answer
+    }
+}
+
 /// All that is told of a relay.
 #[derive(Clone, Copy, Debug, PartialEq, Eq)]
 pub struct Told {
@@ -173,10 +187,10 @@ impl Library {
     }
 
     #[inline]
-    pub fn route(&self, size: u16, n: Counts, room: &mut [u8]) -> Answer {
+    pub fn route(&self, size: u16, n: Counts, room: &mut [u8]) -> Routed {
         let (at, len) = (self.lend_mut(room), room.len());
-        let mut number = STALE_32;
-        // SAFETY: room and number are lent for the call and do not overlap.
+        let (mut sums, mut number) = ([STALE_32; 4], STALE_32);
+        // SAFETY: room, four sums and number are lent for the call and do not overlap.
         let code = unsafe {
             frame_route(
                 size,
@@ -188,10 +202,14 @@ impl Library {
                 n[5],
                 at,
                 len,
+                sums.as_mut_ptr(),
                 &mut number,
             )
         };
-        Answer { code, number }
+        Routed {
+            answer: Answer { code, number },
+            sums,
+        }
     }
 
     pub fn check_map(&self, size: u16, n: Counts, map: &[u8]) -> Answer {

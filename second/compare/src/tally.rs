@@ -7,6 +7,7 @@ use std::fmt;
 pub struct Tally {
     inputs: BTreeMap<&'static str, u64>,
     codes: BTreeMap<&'static str, BTreeMap<u32, u64>>,
+    overfull: BTreeMap<u32, u64>,
 }
 
 impl Tally {
@@ -22,6 +23,18 @@ impl Tally {
             .entry(code)
             .or_default() += 1;
     }
+
+    /// The number beside the router's code 3: a set of sides.
+    pub fn overfull(&mut self, number: u32) {
+        *self.overfull.entry(number).or_default() += 1;
+    }
+}
+
+fn write_times(out: &mut fmt::Formatter, times: &BTreeMap<u32, u64>) -> fmt::Result {
+    for (number, times) in times {
+        write!(out, "  {number}: {times}")?;
+    }
+    writeln!(out)
 }
 
 impl fmt::Display for Tally {
@@ -37,11 +50,9 @@ impl fmt::Display for Tally {
         for (entry, codes) in &self.codes {
             let calls: u64 = codes.values().sum();
             write!(out, "{calls:>9}  {entry} ")?;
-            for (code, times) in codes {
-                write!(out, "  {code}: {times}")?;
-            }
-            writeln!(out)?;
+            write_times(out, codes)?;
         }
-        Ok(())
+        write!(out, "frame_route, overfull sides:")?;
+        write_times(out, &self.overfull)
     }
 }

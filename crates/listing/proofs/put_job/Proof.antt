@@ -11,8 +11,9 @@ use Rattle.listing.proofs.Texts.{Mapped, job-refused, job-mapped}
 use Rattle.listing.proofs.put_job.Statement.{statement}
 use Rattle.listing.proofs.put_job.Tie as tie
 
-refused : (c : tie.At-match-keys2) → let routed = c .before .before in jobText (routed .before .before .before .args .job) ≡ refusedText (routed .route .result)
-refused c = let routed = c .before .before in job-refused _ _ (routed .route .ensures .0) (else-refused (routed .route .result) (c .match .keys2))
+refused : (c : tie.At-match-keys2)
+    → let routed = c .before .before in jobText (routed .before .before .before .args .job) ≡ refusedText (routed .route .result .answer) (routed .route .result .sums)
+refused c = let routed = c .before .before in job-refused _ _ (routed .route .ensures .0) (else-refused (routed .route .result .answer) (c .match .keys2))
 
 mapped : (c : tie.After-map-length)
     → let routed = c .before .before .before .before in Mapped (routed .before .before .before .args .job) (c .map-length .result) (routed .route .last .1 .1 .0)

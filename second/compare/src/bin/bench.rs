@@ -2,7 +2,7 @@
 //! straightforward one in Rust.
 
 use compare::jobs;
-use compare::library::{Answer, Library};
+use compare::library::{Library, Routed};
 use compare::prng::Prng;
 use second::frame::Counts;
 use second::{rule, swift};
@@ -71,14 +71,16 @@ fn set(name: &'static str, rng: &mut Prng, job: fn(&mut Prng, u16) -> Counts) ->
 
 /// Both routers fill rooms of different contents with the plain program's map.
 fn same_maps(set: &Set) -> Result<(), String> {
+    let done = (0, 0, [0; 4]);
     for &counts in &set.jobs {
         let (mut one, mut other) = ([0x5A; MAP], [0xC3; MAP]);
-        let Answer { code, number } = LIBRARY.route(SIZE, counts, &mut one);
+        let Routed { answer, sums } = LIBRARY.route(SIZE, counts, &mut one);
+        let library = (answer.code, answer.number, sums);
         let rust = swift::route(SIZE, counts, &mut other);
         let plain = rule::route(SIZE, counts, MAP).map_err(|refusal| format!("{refusal:?}"))?;
-        if (code, number) != (0, 0) || rust != (0, 0) || one != *plain || other != *plain {
+        if library != done || rust != done || one != *plain || other != *plain {
             return Err(format!(
-                "size {SIZE}, counts {counts:?}\nlibrary: {code} {number} {one:02X?}\nRust:    {rust:?} {other:02X?}\nplain:   {plain:02X?}"
+                "size {SIZE}, counts {counts:?}\nlibrary: {library:?} {one:02X?}\nRust:    {rust:?} {other:02X?}\nplain:   {plain:02X?}"
             ));
         }
     }
@@ -98,20 +100,18 @@ fn measure(set: &mut Set, round: usize) {
 
 fn library_time(jobs: &[Counts]) -> f64 {
     time(jobs, |counts, room| {
-        let answer = LIBRARY.route(black_box(SIZE), counts, room);
-        answer.code + answer.number
+        LIBRARY.route(black_box(SIZE), counts, room)
     })
 }
 
 fn rust_time(jobs: &[Counts]) -> f64 {
     time(jobs, |counts, room| {
-        let (code, number) = swift::route(black_box(SIZE), counts, room);
-        code + number
+        swift::route(black_box(SIZE), counts, room)
     })
 }
 
 /// Nanoseconds a job. The room keeps what the job before left in it.
-fn time(jobs: &[Counts], route: impl Fn(Counts, &mut [u8]) -> u32) -> f64 {
+fn time<A>(jobs: &[Counts], route: impl Fn(Counts, &mut [u8]) -> A) -> f64 {
     let mut room = [0xA5; MAP];
     let start = Instant::now();
     for &counts in jobs {
