@@ -1,5 +1,7 @@
 // Nets added and dropped one by one, while the others stay closed (requests, item 4). The map is lent to each call, and each call makes
 // the start's tests first, so that nothing has to be remembered between calls and no map is changed that was not tested.
+#![tactic(auto)]
+
 ghost use Rattle.std.specs.Prelude.{◌≡◌, ◌≤◌};
 ghost use Rattle.wiring.specs.Frame.{frame};
 ghost use Rattle.wiring.specs.Map.{closed_in};
@@ -11,7 +13,7 @@ ghost use Rattle.changes.specs.Technician.{type_test, call_answer, call_map, add
 use answers::Answer;
 
 // The relay that an added net closed; or why there is none.
-#[derive(Drop)]
+#[derive(Clone, Copy)]
 pub enum Added {
     Closed(u16),
     Refused(Answer),

@@ -1,4 +1,6 @@
 // Job records: the size and six counts, read from any bytes and written into a lent room.
+#![tactic(auto)]
+
 ghost use Rattle.std.specs.Prelude.{◌≡◌, ◌+◌, ◌≤◌, length};
 ghost use Rattle.std.proofs.lemmas.List.Edits.{sets};
 ghost use Rattle.jobs.specs.Format.{size_field, counts_field, head_bytes};
@@ -9,21 +11,21 @@ use answers::Answer;
 use fields::Field;
 use frame::Counts;
 
-#[derive(Drop)]
+#[derive(Clone, Copy)]
 pub struct Job {
     pub size: u16,
     pub counts: Counts,
 }
 
 // What both records begin with: the job, and the place after it; or why there is none.
-#[derive(Drop)]
+#[derive(Clone, Copy)]
 pub enum Head {
     Begun(Job, usize),
     Refused(Answer),
 }
 
 // What reading a job record gives. With any answer but done the job is all 0.
-#[derive(Drop)]
+#[derive(Clone, Copy)]
 pub struct JobRead {
     pub answer: Answer,
     pub job: Job,

@@ -1,4 +1,6 @@
 // The bench lister: reads a job record from standard input and writes its listing to standard output.
+#![tactic(auto)]
+
 ghost use Rattle.std.specs.Prelude.{◌≤◌, length};
 ghost use Rattle.lister.specs.Input.{came};
 

@@ -1,4 +1,6 @@
 // The bench lister's text for a job record, made in a lent room.
+#![tactic(auto)]
+
 ghost use Rattle.std.specs.Prelude.{◌≡◌, ◌∷◌, ◌+◌, ◌*◌, ◌≤◌, ◌<◌, length};
 ghost use Rattle.counting.specs.Count.{count};
 ghost use Rattle.wiring.specs.Frame.{frame};
@@ -15,7 +17,7 @@ use jobs::Job;
 use overfull::Sums;
 
 // How the text was made: done with its length, or a room that is too short and no text.
-#[derive(Drop)]
+#[derive(Clone, Copy)]
 pub struct Listed {
     pub answer: Answer,
     pub len: usize,

@@ -1,4 +1,6 @@
 // The map check: does a map carry a job? It names the first fault, in the order 1, 2, 11, 12, 13, and writes nothing.
+#![tactic(auto)]
+
 ghost use Rattle.std.specs.Prelude.{◌≡◌, ◌≤◌};
 ghost use Rattle.wiring.specs.Wiring.{closed_of};
 ghost use Rattle.wiring.specs.Frame.{frame};

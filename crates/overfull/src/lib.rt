@@ -1,4 +1,6 @@
 // Which sides are asked for more nets than the size, all of them at once, and the four side sums that are told beside an answer.
+#![tactic(auto)]
+
 ghost use Rattle.std.specs.Prelude.{◌≡◌};
 ghost use Rattle.counting.specs.Count.{only_if};
 ghost use Rattle.wiring.specs.Frame.{four};
@@ -10,7 +12,7 @@ use answers::Answer;
 use frame::{Counts, side_sum};
 
 // The nets that counts ask of each side.
-#[derive(Drop)]
+#[derive(Clone, Copy)]
 pub struct Sums {
     pub left: u32,
     pub top: u32,

@@ -1,4 +1,6 @@
 // Pattern records: a job and the map that carries it, read from any bytes and written into a lent room.
+#![tactic(auto)]
+
 ghost use Rattle.std.specs.Prelude.{◌≡◌, ◌+◌, ◌≤◌, length};
 ghost use Rattle.frame.specs.Leaves.{map_bytes};
 ghost use Rattle.patterns.specs.Read.{no_pattern, map_at, read_pattern};
@@ -11,7 +13,7 @@ use jobs::{Head, Job};
 
 // What reading a pattern record gives: the map stands in the record at `start` and has `len` bytes. With any answer but done the
 // job is all 0 and the map has no bytes.
-#[derive(Drop)]
+#[derive(Clone, Copy)]
 pub struct PatternRead {
     pub answer: Answer,
     pub job: Job,

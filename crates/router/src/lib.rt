@@ -1,4 +1,6 @@
 // The router: six counts to a relay map in a lent room, by the written choice rule.
+#![tactic(auto)]
+
 ghost use Rattle.std.specs.Prelude.{◌≡◌, true, map, ◌+◌, ◌*◌, ◌≤◌, ◌<◌, replicate};
 ghost use Rattle.wiring.specs.Wiring.{nets};
 ghost use Rattle.wiring.specs.Frame.{relay};
@@ -18,7 +20,7 @@ use loads::Seated;
 use overfull::Sums;
 
 // What the router gives back beside the room: its answer, and with code 3 what the job asks of each side.
-#[derive(Drop)]
+#[derive(Clone, Copy)]
 pub struct Routed {
     pub answer: Answer,
     pub sums: Sums,

@@ -1,6 +1,8 @@
 // Runs every bench example of the scope, starred or not, the seven vectors of document 000's Table I at size 2, and a technician's calls
 // with item 4's own example among them. Each is compared with what it should be and has a line of its own; the last line says how many
 // hold.
+#![tactic(auto)]
+
 ghost use Rattle.std.specs.Prelude.{◌≡◌, slice_index_or};
 ghost use Rattle.run_examples.specs.Compare.{given, same_sums, stands};
 

@@ -1,4 +1,6 @@
 // Text made in a lent room: each function writes from a place on and gives the place after what it wrote.
+#![tactic(auto)]
+
 ghost use Rattle.std.specs.Prelude.{[], ◌∷◌, ◌+◌, ◌≤◌, length};
 ghost use Rattle.text.specs.Decimal.{decimal};
 ghost use Rattle.text.specs.Wrote.{Wrote};

@@ -1,5 +1,7 @@
 // The field walker: a reader that holds the lent record and its place in it. Each function over it is thin and takes it apart for
 // a covered function on the slice and the number.
+#![tactic(auto)]
+
 ghost use Rattle.std.specs.Prelude.{◌≡◌};
 ghost use Rattle.fields.specs.Read.{field_at};
 ghost use Rattle.jobs.specs.Read.{read_job};

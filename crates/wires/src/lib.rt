@@ -1,4 +1,6 @@
 // How the relay of a number is wired, for a caller who has tested nothing.
+#![tactic(auto)]
+
 ghost use Rattle.std.specs.Prelude.{◌≡◌};
 ghost use Rattle.wires.specs.Wired.{not_wired, wired_as};
 
@@ -6,7 +8,7 @@ use answers::Answer;
 use frame::{Sorted, Terminal, Terminals};
 
 // A relay of a frame that is served: its type, and its two terminals, that of the earlier side first. All are 0 beside a refusal.
-#[derive(Drop)]
+#[derive(Clone, Copy)]
 pub struct Wired {
     pub answer: Answer,
     pub kind: usize,
