@@ -1,7 +1,7 @@
 -- Laws of relay numbers: (c, p) to number and back, the ranges of the types, and the closed relays of one type. Assumes nothing.
 use Prim.Native.Nat.{ℕ, zero, suc, ◌+◌, ◌*◌, ◌-◌, ◌/◌, ◌%◌, ◌≤◌, ◌<◌}
 use mathlib.Core.Path.{◌≡◌, sym, ap, ◌∙◌}
-use mathlib.Core.Bool.{Bool, ◌&&◌, and_false, and-true}
+use mathlib.Core.Bool.{Bool, ◌&&◌, and-false, and-true}
 use native.Mathlib.Omega.{arith}
 use native.Mathlib.Nat.{mod-lt, div-eq_of_lt-le, div-add-mod', div-lt_iff_lt-mul, mul-le-mul_right}
 use native.Mathlib.Decide.{ℕ_discrete, dec_lt}
@@ -92,9 +92,9 @@ count_type W (suc m) c closed a b = e ∙ go (ℕ_discrete c (suc m)) (λ p. cou
     go : Dec (c ≡ suc m) → (c ≤ m → count (m * W) test ≡ count W (λ i. closed ((c - 1) * W + i))) → count (m * W) test + count W (λ i. test (m * W + i)) ≡ count W (λ i. closed ((c - 1) * W + i))
     go (yes p) r =
         let s : c - 1 ≡ m = omega arith in
-        let low = count_none (m * W) test (λ k h. rw (ne_eqb (type_in W k) c (λ x. omega (arith, type_in_lem W m k h))) (and_false (closed k))) in
+        let low = count_none (m * W) test (λ k h. rw (ne_eqb (type_in W k) c (λ x. omega (arith, type_in_lem W m k h))) (and-false (closed k))) in
         let top = count_ext W (λ i. test (m * W + i)) (λ i. closed (m * W + i)) (λ i h. rw (types i h, eq-eqb (suc m) c (omega arith)) (and-true (closed (m * W + i)))) in
         rw s (omega arith)
     go (no p) r =
-        let top = count_none W (λ i. test (m * W + i)) (λ i h. rw (types i h, ne_eqb (suc m) c (λ x. p (sym x))) (and_false (closed (m * W + i)))) in
+        let top = count_none W (λ i. test (m * W + i)) (λ i h. rw (types i h, ne_eqb (suc m) c (λ x. p (sym x))) (and-false (closed (m * W + i)))) in
         omega (arith, r (omega arith))

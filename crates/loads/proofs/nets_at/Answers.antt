@@ -1,0 +1,8 @@
+use Rattle.loads.proofs.Table.{row-nets}
+use Rattle.loads.proofs.nets_at.Goals as goal
+
+pub overflow_cast-result : goal.overflow_cast-result
+overflow_cast-result c = ?
+
+pub returns : goal.returns
+returns c = rw c.requires.0 (row-nets c.args.q c.args.kind c.requires.2 c.requires.3)

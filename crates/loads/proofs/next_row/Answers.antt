@@ -1,0 +1,18 @@
+use Prim.Native.Nat.{◌-◌}
+use mathlib.Core.Path.{sym, ◌∙◌}
+use native.Mathlib.Omega.{arith}
+use borrow.Author.Count.{below_more}
+use Rattle.counting.proofs.Search.{first_is, none_first}
+use Rattle.loads.specs.Load.{pick}
+use Rattle.loads.proofs.next_row.Goals as goal
+
+pub returns-then-row_fits : goal.returns-then-row_fits
+unfolding pick
+returns-then-row_fits c = sym (first_is _ 56 0 _ (omega arith) (omega arith) (sym c.row_fits.ensures ∙ c.if-row_fits.true) (λ j a h. c.loop-q.invariant.1 j h))
+
+pub loop-q-preserved : goal.loop-q-preserved
+loop-q-preserved c = (omega arith, below_more _ _ c.loop-q.invariant.1 (sym c.row_fits.ensures ∙ c.if-row_fits.false))
+
+pub returns : goal.returns
+unfolding pick
+returns c = sym (none_first _ 56 0 (λ j a h. c.loop-q.invariant.1 j (omega arith)) ∙ omega arith)

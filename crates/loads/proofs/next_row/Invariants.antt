@@ -1,0 +1,12 @@
+-- No row before q fits, from the first that is tried on.
+use Prim.Native.Nat.{ℕ, ◌-◌, ◌≤◌, ◌<◌}
+use mathlib.Core.Path.{◌≡◌}
+use mathlib.Core.Bool.{false}
+use Rattle.loads.specs.Load.{fits}
+use Rattle.loads.proofs.next_row.Given as goal
+
+abbrev pub invariant-loop-q : goal.invariant-loop-q
+invariant-loop-q l = (l.q ≤ 56) × ((j : ℕ) → j < l.q → fits l.n l.k j ≡ false)
+
+abbrev pub decreases-loop-q : goal.decreases-loop-q
+decreases-loop-q l = 56 - l.q
