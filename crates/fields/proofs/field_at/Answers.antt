@@ -1,9 +1,9 @@
 -- At each refusal the tests that led there pick the case of `field_at`, and past them the field is there.
-use mathlib.Core.Path.{sym, ◌∙◌}
+use mathlib.Core.Path.{sym, refl, ◌∙◌}
 use native.Mathlib.Omega.{arith}
 use borrow.Author.Tests.{le-leb, lt-leb, lt-ltb, eq-eqb, ne_eqb}
 use Rattle.fields.specs.Read.{field_at}
-use Rattle.fields.proofs.Fields.{by_length}
+use Rattle.fields.proofs.Fields.{by_length, there}
 use Rattle.fields.proofs.field_at.Goals as goal
 
 pub returns-then-s-at : goal.returns-then-s-at
@@ -27,4 +27,5 @@ returns-then-s-value c =
     sym (by_length _ _ _ _ (omega arith) c.if-s-at-2.false ∙ simp (eq-eqb _ _ is, lt-ltb _ _ c.if-s-value.true))
 
 pub returns : goal.returns
-returns c = ?
+returns c =
+    sym (there _ _ _ _ (record { place = refl; fits = omega arith; tagged = c.if-s-at-2.false; sized = sym c.word_at.ensures ∙ c.if-word_at-len.false }))
