@@ -1,13 +1,10 @@
-use Prim.Native.Nat.{◌-◌}
-use mathlib.Core.Path.{refl, ◌∙◌}
-use mathlib.Core.Logic.{⊎_elim, inl, inr}
-use native.Mathlib.Omega.{arith}
-use borrow.Author.Rules.{rules}
+use Rattle.std.proofs.Common.{◌≡◌, ◌≤◌, ◌<◌, ◌-◌, ◌⊎◌, length, get_or, true, false, refl, inl, inr, ◌∙◌, arith, rules}
 use borrow.Author.Count.{below_more}
 use lib.ListN.{length-set}
 use Rattle.counting.proofs.Lists.{between_at}
-use Rattle.loads.proofs.Trial.{net_below, tried_all, tried_on, tried_off, tried_end, seat_first, seat_none}
+use Rattle.loads.proofs.Trial.{Net, net_below, tried_all, tried_on, tried_off, tried_end, seat_first, seat_none}
 use Rattle.loads.proofs.seat.Goals as goal
+use Rattle.loads.proofs.seat.Goals.{then-used-a, else-used-a+then-used-b}
 
 pub trial-init : goal.trial-init
 trial-init c = (omega arith, λ i h. absurd (omega arith))
@@ -17,33 +14,51 @@ loop-j-init c = (omega arith, refl, tried_all _ _ c.requires.1)
 
 pub net_ends-ends-requires : goal.net_ends-ends-requires
 net_ends-ends-requires c =
-    let t = between_at 1 6 _ _ c.requires.1 ((search rules)) in
-    (t.0, t.1, omega arith)
+    let inside : c.loop-j.j < length c.args.types.now = search rules in
+    let kind : (1 ≤ get_or c.args.types.now c.loop-j.j 0) × (get_or c.args.types.now c.loop-j.j 0 ≤ 6) = between_at 1 6 _ _ c.requires.1 inside in
+    (kind.0, kind.1, omega arith)
 
 pub bounds-used-a : goal.bounds-used-a
-bounds-used-a c = omega (arith, (net_below _ _ _ _ _ c.requires.1 ((record { inside = (search rules); touches = c.net_ends-ends.ensures }))))
+bounds-used-a c =
+    let net : Net c.args.types.now c.trial.s c.loop-j.j c.net_ends-ends.result.earlier c.net_ends-ends.result.later =
+      record { inside = search rules; touches = c.net_ends-ends.ensures } in
+    omega (arith, net_below _ _ _ _ _ c.requires.1 net)
 
 pub bounds-used-b : goal.bounds-used-b
-bounds-used-b c = omega (arith, (net_below _ _ _ _ _ c.requires.1 ((record { inside = (search rules); touches = c.net_ends-ends.ensures }))))
+bounds-used-b c =
+    let net : Net c.args.types.now c.trial.s c.loop-j.j c.net_ends-ends.result.earlier c.net_ends-ends.result.later =
+      record { inside = search rules; touches = c.net_ends-ends.ensures } in
+    omega (arith, net_below _ _ _ _ _ c.requires.1 net)
 
 pub bounds-used-a-in-loop-j : goal.bounds-used-a-in-loop-j
-bounds-used-a-in-loop-j c = omega (arith, (net_below _ _ _ _ _ c.requires.1 ((record { inside = (search rules); touches = c.net_ends-ends.ensures }))))
+bounds-used-a-in-loop-j c =
+    let net : Net c.args.types.now c.trial.s c.loop-j.j c.net_ends-ends.result.earlier c.net_ends-ends.result.later =
+      record { inside = search rules; touches = c.net_ends-ends.ensures } in
+    omega (arith, net_below _ _ _ _ _ c.requires.1 net)
 
 pub bounds-used-b-in-loop-j : goal.bounds-used-b-in-loop-j
-bounds-used-b-in-loop-j c = omega (arith, (net_below _ _ _ _ _ c.requires.1 ((record { inside = (search rules); touches = c.net_ends-ends.ensures }))))
+bounds-used-b-in-loop-j c =
+    let net : Net c.args.types.now c.trial.s c.loop-j.j c.net_ends-ends.result.earlier c.net_ends-ends.result.later =
+      record { inside = search rules; touches = c.net_ends-ends.ensures } in
+    omega (arith, net_below _ _ _ _ _ c.requires.1 net)
 
 pub loop-j-preserved : goal.loop-j-preserved
 loop-j-preserved c =
+    let net : Net c.args.types.now c.trial.s c.loop-j.j c.net_ends-ends.result.earlier c.net_ends-ends.result.later =
+      record { inside = search rules; touches = c.net_ends-ends.ensures } in
     (
       omega arith,
       simp length-set c.loop-j.invariant.1,
-      c.loop-j.invariant.2 ∙ tried_on _ _ _ _ _ _ ((record { inside = (search rules); touches = c.net_ends-ends.ensures })) c.if-used-a.false c.if-used-b.false,
+      c.loop-j.invariant.2 ∙ tried_on _ _ _ _ _ _ net c.if-used-a.false c.if-used-b.false,
     )
 
 pub trial-preserved : goal.trial-preserved
 trial-preserved c =
-    let met = ⊎_elim (λ w. inl w.taken) (λ w. inr w.1.taken) c.if-used-a.branch in
-    (omega arith, below_more _ _ c.trial.invariant.1 (c.loop-j.invariant.2 ∙ tried_off _ _ _ _ _ _ ((record { inside = (search rules); touches = c.net_ends-ends.ensures })) met))
+    let net : Net c.args.types.now c.trial.s c.loop-j.j c.net_ends-ends.result.earlier c.net_ends-ends.result.later =
+      record { inside = search rules; touches = c.net_ends-ends.ensures } in
+    let met : (get_or c.loop-j.used c.net_ends-ends.result.earlier false ≡ true) ⊎ (get_or c.loop-j.used c.net_ends-ends.result.later false ≡ true) =
+      elim c.if-used-a.branch [ then-used-a w ↦ inl w.if-used-a.true | else-used-a+then-used-b w ↦ inr w.if-used-b.true ] in
+    (omega arith, below_more _ _ c.trial.invariant.1 (c.loop-j.invariant.2 ∙ tried_off _ _ _ _ _ _ net met))
 
 pub returns-after-trial : goal.returns-after-trial
 returns-after-trial c = seat_none _ _ c.requires.0 (omega arith) c.trial.invariant.1
