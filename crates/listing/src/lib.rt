@@ -39,8 +39,8 @@ fn side_letter(side: usize) -> u8
 
 // A space, then side and position, as L1.
 fn put_terminal(room: &mut [u8], at: usize, t: Terminal) -> usize
-    requires le_side { 1 ≤ t.side }
-    requires position_in_bounds { at + length (space ∷ terminal_text t.side t.position) ≤ length room.old }
+    requires side_there { 1 ≤ t.side }
+    requires text_fits { at + length (space ∷ terminal_text t.side t.position) ≤ length room.old }
     ensures { Wrote room.old at (space ∷ terminal_text t.side t.position) room.new result }
 {
     let next = text::put_byte(room, at, b' ');
@@ -50,8 +50,8 @@ fn put_terminal(room: &mut [u8], at: usize, t: Terminal) -> usize
 
 // A closed relay's line: type, terminal on the earlier side, terminal on the later side.
 fn put_net(room: &mut [u8], at: usize, size: usize, relay: usize) -> usize
-    requires relay_bound { relay < 6 * size }
-    requires relay_in_bounds { at + length (net_line size relay) ≤ length room.old }
+    requires relay_there { relay < 6 * size }
+    requires line_fits { at + length (net_line size relay) ≤ length room.old }
     ensures { Wrote room.old at (net_line size relay) room.new result }
 {
     let Sorted::Relay(kind, _) = frame::sort_relay(size, relay) else {

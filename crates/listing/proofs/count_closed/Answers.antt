@@ -6,6 +6,7 @@ use Rattle.counting.specs.Count.{count}
 use Rattle.wiring.specs.Map.{closed_in}
 use Rattle.counting.proofs.Counting.{count_le, count_passed, count_failed}
 use Rattle.listing.proofs.count_closed.Goals as goal
+use Rattle.listing.proofs.count_closed.Goals.{then-is_closed, else-is_closed}
 
 pub loop-relay-init : goal.loop-relay-init
 unfolding count
@@ -16,10 +17,10 @@ overflow_add-nets c = omega (arith, count_le c.loop-relay.relay (closed_in c.arg
 
 pub loop-relay-preserved : goal.loop-relay-preserved
 loop-relay-preserved c =
-    ⊎_elim
-    (λ w. (omega arith, w.1 ∙ count_passed _ _ _ (sym c.is_closed.ensures ∙ w.0.taken) c.loop-relay.invariant.1))
-    (λ w. (omega arith, w.1 ∙ count_failed _ _ _ (sym c.is_closed.ensures ∙ w.0.left) c.loop-relay.invariant.1))
-    c.if-is_closed.branch
+    elim c.if-is_closed.branch [
+      then-is_closed w ↦ (omega arith, w.nets-is ∙ count_passed _ _ _ (sym c.is_closed.ensures ∙ w.if-is_closed.true) c.loop-relay.invariant.1)
+    | else-is_closed w ↦ (omega arith, w.nets-is ∙ count_failed _ _ _ (sym c.is_closed.ensures ∙ w.if-is_closed.false) c.loop-relay.invariant.1)
+    ]
 
 pub returns : goal.returns
 returns c = c.loop-relay.invariant.1 ∙ ap (λ (k : ℕ). count k (closed_in c.args.map.now)) (omega arith)
