@@ -1,4 +1,3 @@
-use Prim.Native.Nat.{◌-◌}
 use mathlib.Core.Path.{sym, ◌∙◌}
 use native.Mathlib.Omega.{arith}
 use borrow.Author.Count.{below_more}
@@ -28,12 +27,11 @@ pub overflow_add-k : goal.overflow_add-k
 overflow_add-k c = omega (arith, c.requires, c.loop-k.invariant.1, (type_block c.args.size 6 c.args.kind c.requires.1 c.requires.2))
 
 pub loop-k-preserved : goal.loop-k-preserved
-loop-k-preserved c =
-    (
-      omega (arith, c.loop-k.invariant.0),
-      omega (arith, c.loop-k-test.true),
-      below_more _ _ c.loop-k.invariant.2 (λ h. sym c.relay_marked.ensures ∙ c.if-not-relay_marked.false),
-    )
+loop-k-preserved c = (
+  omega (arith, c.loop-k.invariant.0),
+  omega (arith, c.loop-k-test.true),
+  below_more _ _ c.loop-k.invariant.2 (λ h. sym c.relay_marked.ensures ∙ c.if-not-relay_marked.false),
+)
 
 pub returns : goal.returns
 returns c = free_nowhere _ _ _ _ c.requires.0 c.requires.1 c.requires.2 c.marks_of-touched.ensures _ c.loop-k-test.false c.loop-k.invariant.2

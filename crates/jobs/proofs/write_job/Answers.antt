@@ -30,5 +30,5 @@ pub returns : goal.returns
 unfolding job_answer job_room
 returns c =
     let start = c.args in
-    let out = all_put _ (job_record start.job) start.room.now ((sym c.test_size-served.ensures ∙ c.in-Done.is)) (omega arith) c.put_head.ensures  in
+    let out = all_put _ (job_record start.job) start.room.now ((sym c.test_size-served.ensures ∙ c.in-Done.is)) (omega arith) c.put_head.ensures in
     record { value = out.0; room_after = out.1 }

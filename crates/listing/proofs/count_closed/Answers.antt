@@ -1,6 +1,5 @@
-use Prim.Native.Nat.{ℕ, ◌-◌}
+use Prim.Native.Nat.{ℕ}
 use mathlib.Core.Path.{refl, sym, ap, ◌∙◌}
-use mathlib.Core.Logic.{⊎_elim}
 use native.Mathlib.Omega.{arith}
 use Rattle.counting.specs.Count.{count}
 use Rattle.wiring.specs.Map.{closed_in}
@@ -18,8 +17,8 @@ overflow_add-nets c = omega (arith, count_le c.loop-relay.relay (closed_in c.arg
 pub loop-relay-preserved : goal.loop-relay-preserved
 loop-relay-preserved c =
     elim c.if-is_closed.branch [
-      then-is_closed w ↦ (omega arith, w.nets-is ∙ count_passed _ _ _ (sym c.is_closed.ensures ∙ w.if-is_closed.true) c.loop-relay.invariant.1)
-    | else-is_closed w ↦ (omega arith, w.nets-is ∙ count_failed _ _ _ (sym c.is_closed.ensures ∙ w.if-is_closed.false) c.loop-relay.invariant.1)
+      | then-is_closed w ↦ (omega arith, w.nets-is ∙ count_passed _ _ _ (sym c.is_closed.ensures ∙ w.if-is_closed.true) c.loop-relay.invariant.1)
+      | else-is_closed w ↦ (omega arith, w.nets-is ∙ count_failed _ _ _ (sym c.is_closed.ensures ∙ w.if-is_closed.false) c.loop-relay.invariant.1)
     ]
 
 pub returns : goal.returns

@@ -14,30 +14,30 @@ returns-in_default-relay_terminals c = absurd (ends_always _ _ c.requires.relay_
 pub put_decimal-next-requires : goal.put_decimal-next-requires
 put_decimal-next-requires c =
     let net : IsNet c.args.size c.args.relay c.in-Relay.kind c.in-Joined.earlier c.in-Joined.later =
-      is_net _ _ c.requires.relay_there _ _ _ _ (sym c.sort_relay.ensures ∙ c.in-Relay.is) (sym c.relay_terminals.ensures ∙ c.in-Joined.is) in
+    is_net _ _ c.requires.relay_there _ _ _ _ (sym c.sort_relay.ensures ∙ c.in-Relay.is) (sym c.relay_terminals.ensures ∙ c.in-Joined.is) in
     omega (arith, net)
 
 pub put_terminal-next-requires : goal.put_terminal-next-requires
 put_terminal-next-requires c =
     let net : IsNet c.args.size c.args.relay c.in-Relay.kind c.in-Joined.earlier c.in-Joined.later =
-      is_net _ _ c.requires.relay_there _ _ _ _ (sym c.sort_relay.ensures ∙ c.in-Relay.is) (sym c.relay_terminals.ensures ∙ c.in-Joined.is) in
+    is_net _ _ c.requires.relay_there _ _ _ _ (sym c.sort_relay.ensures ∙ c.in-Relay.is) (sym c.relay_terminals.ensures ∙ c.in-Joined.is) in
     record { side_there = omega (arith, net); text_fits = omega (arith, net) }
 
 pub put_terminal-next-requires-2 : goal.put_terminal-next-requires-2
 put_terminal-next-requires-2 c =
     let net : IsNet c.args.size c.args.relay c.in-Relay.kind c.in-Joined.earlier c.in-Joined.later =
-      is_net _ _ c.requires.relay_there _ _ _ _ (sym c.sort_relay.ensures ∙ c.in-Relay.is) (sym c.relay_terminals.ensures ∙ c.in-Joined.is) in
+    is_net _ _ c.requires.relay_there _ _ _ _ (sym c.sort_relay.ensures ∙ c.in-Relay.is) (sym c.relay_terminals.ensures ∙ c.in-Joined.is) in
     record { side_there = omega (arith, net); text_fits = omega (arith, net) }
 
 pub put_byte-requires : goal.put_byte-requires
 put_byte-requires c =
     let net : IsNet c.args.size c.args.relay c.in-Relay.kind c.in-Joined.earlier c.in-Joined.later =
-      is_net _ _ c.requires.relay_there _ _ _ _ (sym c.sort_relay.ensures ∙ c.in-Relay.is) (sym c.relay_terminals.ensures ∙ c.in-Joined.is) in
+    is_net _ _ c.requires.relay_there _ _ _ _ (sym c.sort_relay.ensures ∙ c.in-Relay.is) (sym c.relay_terminals.ensures ∙ c.in-Joined.is) in
     omega (arith, net)
 
 pub returns : goal.returns
 returns c =
     let net : IsNet c.args.size c.args.relay c.in-Relay.kind c.in-Joined.earlier c.in-Joined.later =
-      is_net _ _ c.requires.relay_there _ _ _ _ (sym c.sort_relay.ensures ∙ c.in-Relay.is) (sym c.relay_terminals.ensures ∙ c.in-Joined.is) in
+    is_net _ _ c.requires.relay_there _ _ _ _ (sym c.sort_relay.ensures ∙ c.in-Relay.is) (sym c.relay_terminals.ensures ∙ c.in-Joined.is) in
     wrote_as net.line
     (wrote_append c.put_decimal-next.ensures (wrote_append c.put_terminal-next.ensures (wrote_append c.put_terminal-next-2.ensures c.put_byte.ensures)))

@@ -1,6 +1,5 @@
-use Prim.Native.Nat.{◌*◌, ◌-◌}
+use Prim.Native.Nat.{◌*◌}
 use mathlib.Core.Path.{◌≡◌, sym, ◌∙◌}
-use mathlib.Core.Logic.{⊎_elim}
 use native.Mathlib.Omega.{arith}
 use Rattle.text.proofs.Stores.{wrote_length}
 use Rattle.listing.proofs.Lines.{nets_none, nets_closed, nets_open, nets-room}
@@ -19,8 +18,8 @@ put_net-next-requires c =
 pub loop-relay-preserved : goal.loop-relay-preserved
 loop-relay-preserved c =
     elim c.if-is_closed.branch [
-      then-is_closed w ↦ (omega arith, rw (w.room-is, w.next-is) (nets_closed _ _ _ (sym c.is_closed.ensures ∙ w.if-is_closed.true) c.loop-relay.invariant.1 w.put_net-next.ensures))
-    | else-is_closed w ↦ (omega arith, rw (w.room-is, w.next-is) (nets_open _ _ _ (sym c.is_closed.ensures ∙ w.if-is_closed.false) c.loop-relay.invariant.1))
+      | then-is_closed w ↦ (omega arith, rw (w.room-is, w.next-is) (nets_closed _ _ _ (sym c.is_closed.ensures ∙ w.if-is_closed.true) c.loop-relay.invariant.1 w.put_net-next.ensures))
+      | else-is_closed w ↦ (omega arith, rw (w.room-is, w.next-is) (nets_open _ _ _ (sym c.is_closed.ensures ∙ w.if-is_closed.false) c.loop-relay.invariant.1))
     ]
 
 pub returns : goal.returns

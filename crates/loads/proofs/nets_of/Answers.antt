@@ -16,35 +16,35 @@ pub bounds-types-m-then-nets-ge2 : goal.bounds-types-m-then-nets-ge2
 bounds-types-m-then-nets-ge2 c =
     let known = filled_type _ _ _ _ _ c.loop-kind-test.true c.nets_at-nets.ensures c.loop-kind.invariant.2 in
     let once : Filled (row c.args.q) c.if-nets-ge1.types c.if-nets-ge1.m (todo (row c.args.q) c.loop-kind.kind (c.nets_at-nets.result - 1)) =
-      elim c.if-nets-ge1.branch [
-        then-nets-ge1 w ↦ rw (w.types-is, w.m-is) (filled_net _ _ _ _ _ known w.if-nets-ge1.true).1
+    elim c.if-nets-ge1.branch [
+      | then-nets-ge1 w ↦ rw (w.types-is, w.m-is) (filled_net _ _ _ _ _ known w.if-nets-ge1.true).1
       | else-nets-ge1 w ↦ rw (w.types-is, w.m-is) (filled_pass _ _ _ _ _ known w.if-nets-ge1.false)
-      ] in
+    ] in
     (filled_net _ _ _ _ _ once (omega arith)).0
 
 pub overflow_add-m-then-nets-ge2 : goal.overflow_add-m-then-nets-ge2
 overflow_add-m-then-nets-ge2 c =
     let known = filled_type _ _ _ _ _ c.loop-kind-test.true c.nets_at-nets.ensures c.loop-kind.invariant.2 in
     let once : Filled (row c.args.q) c.if-nets-ge1.types c.if-nets-ge1.m (todo (row c.args.q) c.loop-kind.kind (c.nets_at-nets.result - 1)) =
-      elim c.if-nets-ge1.branch [
-        then-nets-ge1 w ↦ rw (w.types-is, w.m-is) (filled_net _ _ _ _ _ known w.if-nets-ge1.true).1
+    elim c.if-nets-ge1.branch [
+      | then-nets-ge1 w ↦ rw (w.types-is, w.m-is) (filled_net _ _ _ _ _ known w.if-nets-ge1.true).1
       | else-nets-ge1 w ↦ rw (w.types-is, w.m-is) (filled_pass _ _ _ _ _ known w.if-nets-ge1.false)
-      ] in
+    ] in
     omega (arith, once)
 
 pub loop-kind-preserved : goal.loop-kind-preserved
 loop-kind-preserved c =
     let known = filled_type _ _ _ _ _ c.loop-kind-test.true c.nets_at-nets.ensures c.loop-kind.invariant.2 in
     let once : Filled (row c.args.q) c.if-nets-ge1.types c.if-nets-ge1.m (todo (row c.args.q) c.loop-kind.kind (c.nets_at-nets.result - 1)) =
-      elim c.if-nets-ge1.branch [
-        then-nets-ge1 w ↦ rw (w.types-is, w.m-is) (filled_net _ _ _ _ _ known w.if-nets-ge1.true).1
+    elim c.if-nets-ge1.branch [
+      | then-nets-ge1 w ↦ rw (w.types-is, w.m-is) (filled_net _ _ _ _ _ known w.if-nets-ge1.true).1
       | else-nets-ge1 w ↦ rw (w.types-is, w.m-is) (filled_pass _ _ _ _ _ known w.if-nets-ge1.false)
-      ] in
+    ] in
     let twice : Filled (row c.args.q) c.if-nets-ge2.types c.if-nets-ge2.m (todo (row c.args.q) c.loop-kind.kind (c.nets_at-nets.result - 1 - 1)) =
-      elim c.if-nets-ge2.branch [
-        then-nets-ge2 w ↦ rw (w.types-is, w.m-is) (filled_net _ _ _ _ _ once (omega arith)).1
+    elim c.if-nets-ge2.branch [
+      | then-nets-ge2 w ↦ rw (w.types-is, w.m-is) (filled_net _ _ _ _ _ once (omega arith)).1
       | else-nets-ge2 w ↦ rw (w.types-is, w.m-is) (filled_pass _ _ _ _ _ once (omega arith))
-      ] in (
+    ] in (
       omega arith,
       omega arith,
       filled_next _ _ _ _ (c.nets_at-nets.result - 1 - 1) twice c.loop-kind-test.true

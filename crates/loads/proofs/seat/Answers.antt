@@ -1,4 +1,4 @@
-use Rattle.std.proofs.Common.{◌≡◌, ◌≤◌, ◌<◌, ◌-◌, ◌⊎◌, length, get_or, true, false, refl, inl, inr, ◌∙◌, arith, rules}
+use Rattle.std.proofs.Common.{◌≡◌, ◌≤◌, ◌<◌, ◌⊎◌, length, get_or, true, false, refl, inl, inr, ◌∙◌, arith, rules}
 use borrow.Author.Count.{below_more}
 use lib.ListN.{length-set}
 use Rattle.counting.proofs.Lists.{between_at}
@@ -21,32 +21,31 @@ net_ends-ends-requires c =
 pub bounds-used-a : goal.bounds-used-a
 bounds-used-a c =
     let net : Net c.args.types.now c.trial.s c.loop-j.j c.net_ends-ends.result.earlier c.net_ends-ends.result.later =
-      record { inside = search rules; touches = c.net_ends-ends.ensures } in
+    record { inside = search rules; touches = c.net_ends-ends.ensures } in
     omega (arith, net_below _ _ _ _ _ c.requires.1 net)
 
 pub bounds-used-b : goal.bounds-used-b
 bounds-used-b c =
     let net : Net c.args.types.now c.trial.s c.loop-j.j c.net_ends-ends.result.earlier c.net_ends-ends.result.later =
-      record { inside = search rules; touches = c.net_ends-ends.ensures } in
+    record { inside = search rules; touches = c.net_ends-ends.ensures } in
     omega (arith, net_below _ _ _ _ _ c.requires.1 net)
 
 pub bounds-used-a-in-loop-j : goal.bounds-used-a-in-loop-j
 bounds-used-a-in-loop-j c =
     let net : Net c.args.types.now c.trial.s c.loop-j.j c.net_ends-ends.result.earlier c.net_ends-ends.result.later =
-      record { inside = search rules; touches = c.net_ends-ends.ensures } in
+    record { inside = search rules; touches = c.net_ends-ends.ensures } in
     omega (arith, net_below _ _ _ _ _ c.requires.1 net)
 
 pub bounds-used-b-in-loop-j : goal.bounds-used-b-in-loop-j
 bounds-used-b-in-loop-j c =
     let net : Net c.args.types.now c.trial.s c.loop-j.j c.net_ends-ends.result.earlier c.net_ends-ends.result.later =
-      record { inside = search rules; touches = c.net_ends-ends.ensures } in
+    record { inside = search rules; touches = c.net_ends-ends.ensures } in
     omega (arith, net_below _ _ _ _ _ c.requires.1 net)
 
 pub loop-j-preserved : goal.loop-j-preserved
 loop-j-preserved c =
     let net : Net c.args.types.now c.trial.s c.loop-j.j c.net_ends-ends.result.earlier c.net_ends-ends.result.later =
-      record { inside = search rules; touches = c.net_ends-ends.ensures } in
-    (
+    record { inside = search rules; touches = c.net_ends-ends.ensures } in (
       omega arith,
       simp length-set c.loop-j.invariant.1,
       c.loop-j.invariant.2 ∙ tried_on _ _ _ _ _ _ net c.if-used-a.false c.if-used-b.false,
@@ -55,9 +54,9 @@ loop-j-preserved c =
 pub trial-preserved : goal.trial-preserved
 trial-preserved c =
     let net : Net c.args.types.now c.trial.s c.loop-j.j c.net_ends-ends.result.earlier c.net_ends-ends.result.later =
-      record { inside = search rules; touches = c.net_ends-ends.ensures } in
+    record { inside = search rules; touches = c.net_ends-ends.ensures } in
     let met : (get_or c.loop-j.used c.net_ends-ends.result.earlier false ≡ true) ⊎ (get_or c.loop-j.used c.net_ends-ends.result.later false ≡ true) =
-      elim c.if-used-a.branch [ then-used-a w ↦ inl w.if-used-a.true | else-used-a+then-used-b w ↦ inr w.if-used-b.true ] in
+    elim c.if-used-a.branch [ then-used-a w ↦ inl w.if-used-a.true | else-used-a+then-used-b w ↦ inr w.if-used-b.true ] in
     (omega arith, below_more _ _ c.trial.invariant.1 (c.loop-j.invariant.2 ∙ tried_off _ _ _ _ _ _ net met))
 
 pub returns-after-trial : goal.returns-after-trial

@@ -1,6 +1,4 @@
-use Prim.Native.Nat.{◌-◌}
 use mathlib.Core.Path.{refl, sym, ◌∙◌}
-use mathlib.Core.Logic.{⊎_elim}
 use native.Mathlib.Omega.{arith}
 use Rattle.counting.specs.Count.{count}
 use Rattle.counting.proofs.Counting.{count_passed, count_failed}
@@ -22,8 +20,8 @@ overflow_add-base c = omega (arith, type_block c.args.size 6 _ c.requires.1 c.re
 pub loop-i-preserved : goal.loop-i-preserved
 loop-i-preserved c =
     elim c.if-is_closed.branch [
-      then-is_closed w ↦ (omega arith, omega arith, w.n-is ∙ count_passed _ _ _ (sym c.is_closed.ensures ∙ w.if-is_closed.true) c.loop-i.invariant.2)
-    | else-is_closed w ↦ (omega arith, omega arith, w.n-is ∙ count_failed _ _ _ (sym c.is_closed.ensures ∙ w.if-is_closed.false) c.loop-i.invariant.2)
+      | then-is_closed w ↦ (omega arith, omega arith, w.n-is ∙ count_passed _ _ _ (sym c.is_closed.ensures ∙ w.if-is_closed.true) c.loop-i.invariant.2)
+      | else-is_closed w ↦ (omega arith, omega arith, w.n-is ∙ count_failed _ _ _ (sym c.is_closed.ensures ∙ w.if-is_closed.false) c.loop-i.invariant.2)
     ]
 
 pub returns : goal.returns

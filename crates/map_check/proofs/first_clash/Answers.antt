@@ -1,6 +1,4 @@
-use Prim.Native.Nat.{◌-◌}
 use mathlib.Core.Path.{sym, ◌∙◌}
-use mathlib.Core.Logic.{⊎_elim}
 use native.Mathlib.Omega.{arith}
 use native.Mathlib.Numerals.{add-one}
 use Rattle.marks.proofs.Marks.{frame_worded, marks_start, marks_same, marks_more}
@@ -25,13 +23,13 @@ loop-k-preserved c =
     let closed = sym c.is_closed.ensures in (
       rw (add-one c.loop-k.k)
           (elim c.if-is_closed.branch [
-            then-is_closed+else-relay_marked w ↦ marks_more _ _ _ _ _ inv.0 (closed ∙ w.if-is_closed.true) (w.touched-is ∙ w.mark_relay-more.ensures)
-          | else-is_closed w ↦ rw w.touched-is (marks_same _ _ _ _ inv.0 (closed ∙ w.if-is_closed.false))
+            | then-is_closed+else-relay_marked w ↦ marks_more _ _ _ _ _ inv.0 (closed ∙ w.if-is_closed.true) (w.touched-is ∙ w.mark_relay-more.ensures)
+            | else-is_closed w ↦ rw w.touched-is (marks_same _ _ _ _ inv.0 (closed ∙ w.if-is_closed.false))
           ]),
       elim c.if-is_closed.branch [
-        then-is_closed+else-relay_marked w ↦
-          none_unmarked _ worded _ _ _ inv.0 inv.1 c.loop-k-test.true (closed ∙ w.if-is_closed.true) (sym w.relay_marked.ensures ∙ w.if-relay_marked.false)
-      | else-is_closed w ↦ none_open _ worded _ _ _ inv.0 inv.1 (closed ∙ w.if-is_closed.false)
+        | then-is_closed+else-relay_marked w ↦
+            none_unmarked _ worded _ _ _ inv.0 inv.1 c.loop-k-test.true (closed ∙ w.if-is_closed.true) (sym w.relay_marked.ensures ∙ w.if-relay_marked.false)
+        | else-is_closed w ↦ none_open _ worded _ _ _ inv.0 inv.1 (closed ∙ w.if-is_closed.false)
       ],
       omega arith,
     )

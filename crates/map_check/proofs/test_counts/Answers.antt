@@ -1,4 +1,4 @@
-use Rattle.std.proofs.Common.{◌-◌, sym, ◌∙◌, arith, below_more}
+use Rattle.std.proofs.Common.{sym, ◌∙◌, arith, below_more}
 use Rattle.map_check.proofs.Ways.{count-here, count_nowhere}
 use Rattle.map_check.proofs.test_counts.Goals as goal
 

@@ -1,4 +1,3 @@
-use Prim.Native.Nat.{◌-◌}
 use mathlib.Core.Path.{refl, ap, ◌∙◌}
 use native.Mathlib.Omega.{arith}
 use lib.ListN.{length}
@@ -35,7 +34,7 @@ next_row-next-requires c =
 pub seat_next-seated-requires : goal.seat_next-seated-requires
 seat_next-seated-requires c =
     let at = c.loop-r.invariant in
-    (at.2, (    turn_below c.loop-r.invariant.3 c.loop-r-test.true c.if-p-skip.false c.next_row-next.ensures), at.3.seated)
+    (at.2, (turn_below c.loop-r.invariant.3 c.loop-r-test.true c.if-p-skip.false c.next_row-next.ensures), at.3.seated)
 
 pub close_block-requires : goal.close_block-requires
 close_block-requires c =
@@ -43,7 +42,7 @@ close_block-requires c =
     (c.seat_next-seated.ensures.nets, at.3.low, omega (arith, turn_place at.3 c.loop-r-test.true c.if-p-skip.false), at.1)
 
 pub row_at-requires : goal.row_at-requires
-row_at-requires c = (c.loop-r.invariant.2, (    turn_below c.loop-r.invariant.3 c.loop-r-test.true c.if-p-skip.false c.next_row-next.ensures))
+row_at-requires c = (c.loop-r.invariant.2, (turn_below c.loop-r.invariant.3 c.loop-r-test.true c.if-p-skip.false c.next_row-next.ensures))
 
 pub less-n-requires : goal.less-n-requires
 less-n-requires c = turn_most c.loop-r.invariant.3 c.loop-r-test.true c.if-p-skip.false c.next_row-next.ensures c.row_at.ensures

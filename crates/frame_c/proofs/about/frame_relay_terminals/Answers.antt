@@ -24,4 +24,3 @@ pub tell-requires : goal.tell-requires
 tell-requires c =
     let small : SmallWired c.wiring_of-wired.result = rw c.wiring_of-wired.ensures (wired_small _ _ c.ranges.size.fits c.ranges.relay.fits) in
     omega (arith, small.number)
-

@@ -1,11 +1,6 @@
 -- What `route` ensures of the six counts, told in C's way.
-use mathlib.Core.Path.{ap}
-use Rattle.overfull.specs.Overfull.{sum_list}
-use Rattle.router.specs.declared.Routed.{Routed}
 use Rattle.frame_c.proofs.NumbersFit.{route_fits}
-use Rattle.frame_c.proofs.ToldAs.{told_as}
 use Rattle.frame_c.proofs.routing.frame_route.Goals as goal
 
 pub tell-requires : goal.tell-requires
 tell-requires c = rw c.route-told.ensures.value (route_fits _ _ _ c.ranges.size.fits)
-

@@ -2,7 +2,6 @@
 use mathlib.Core.Path.{ap, ◌∙◌}
 use Rattle.changes.specs.Technician.{added_answer}
 use Rattle.changes.proofs.Ways.{added_answer_lem}
-use Rattle.frame_c.specs.Relay.{relay_told}
 use Rattle.frame_c.proofs.NumbersFit.{add_fits}
 use Rattle.frame_c.proofs.ToldAs.{told_as}
 use Rattle.frame_c.proofs.technician.frame_add_net.Goals as goal
