@@ -2,7 +2,7 @@
 
 PREFIX ?= /usr/local
 N ?= 1000000
-# what rt keeps in a crate's out/ is none
+# what rt keeps in a crate's out/ is no source
 sources := crates.txt $(shell find crates -name out -prune -o \( -name '*.rt' -o -name '*.antt' \) -print)
 archive := target/staticlib/libframe_c.a
 lister := target/bin/lister
