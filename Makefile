@@ -2,7 +2,8 @@
 
 PREFIX ?= /usr/local
 N ?= 1000000
-sources := crates.txt $(shell find crates \( -name '*.rt' -o -name '*.antt' \))
+# what rt keeps in a crate's out/ is no source
+sources := crates.txt $(shell find crates -name out -prune -o \( -name '*.rt' -o -name '*.antt' \) -print)
 archive := target/staticlib/libframe_c.a
 lister := target/bin/lister
 shared := target/shared/libylvanteri_frame.so
@@ -17,14 +18,13 @@ run: lister ## proves and builds the bench lister and runs it on the worked job 
 	@echo 'The lister on the worked job record, crates/lister/stdin:' >&2
 	@$(lister) < crates/lister/stdin
 
-test: ## the gate: proves everything from nothing, tries every must-fail edit, runs all other tests
+test: ## the gate: proves every crate, tries every must-fail edit, runs all other tests
 	@tools/needs rt gcc g++ cargo
 	@tests/all
 
 check: ## for the day's work: proves what changed, C tests, examples, one row for each code; no edits
 	@tools/needs rt gcc g++
-	@rt fmt --check
-	@tools/shown check
+	@tools/shown . all check
 	@tests/c/run
 	@tests/examples/run
 	@tests/consistent/run
@@ -44,8 +44,8 @@ uninstall: ## takes away what install put under PREFIX (and DESTDIR)
 dist: all ## packs the same for a machine without the kit, into dist/, with checksums
 	@tools/dist
 
-clean: ## removes all that was built; the next proof starts from nothing
-	rm -rf target dist second/target
+clean: ## removes all that was built, and what rt keeps of its checks
+	rm -rf target dist second/target crates/*/out
 
 help: ## lists what can be made
 	@sed -n 's/^\([a-z]*\):.* ## \(.*\)/\1|\2/p' Makefile | awk -F'|' '{ printf "make %-10s %s\n", $$1, $$2 }'
@@ -60,15 +60,18 @@ shared: needs-gcc $(shared)
 
 $(archive): $(sources)
 	@tools/needs rt
-	@echo 'Proving the library, crate by crate: about two minutes on two cores the first time.' >&2
-	@tools/shown staticlib frame_c
-	@touch $@
+	@echo 'Proving the library, crate by crate: some minutes the first time.' >&2
+	@tools/shown crates/frame_c lib
+	@mkdir -p $(@D)
+	@cp crates/frame_c/out/libframe_c.a $@
 
+# rt builds a program in order to run it
 $(lister): $(sources)
 	@tools/needs rt
-	@echo 'Proving the bench lister, crate by crate: about two minutes on two cores the first time.' >&2
-	@tools/shown check lister
-	@touch $@
+	@echo 'Proving the bench lister, crate by crate: some minutes the first time.' >&2
+	@tools/shown crates/lister run < crates/lister/stdin
+	@mkdir -p $(@D)
+	@cp crates/lister/out/lister $@
 
 # bound at once, so that no entry's stack holds the loader's work; without symbols that only a linker reads
 $(shared): $(archive) shared/frame_code_text.c include/frame.h
