@@ -4,7 +4,7 @@
 ghost use Rattle.std.specs.Prelude.{◌≤◌, length};
 ghost use Rattle.lister.specs.Input.{came};
 
-use libc::{STDERR_FILENO, STDIN_FILENO, STDOUT_FILENO};
+use std::io::Read;
 
 // How many bytes came; or a read failed.
 #[derive(Drop)]
@@ -14,23 +14,22 @@ enum Input {
 }
 
 // Reads once.
-fn read_once(room: &mut [u8]) -> Input
+fn read_once(input: &mut impl Read, room: &mut [u8]) -> Input
     ensures { came result ≤ length room.new }
 {
-    let got = libc::read(STDIN_FILENO, room);
-    if got < 0 {
-        return Input::Failed;
+    match input.read(room) {
+        Ok(n) => Input::Bytes(n),
+        Err(_) => Input::Failed,
     }
-    Input::Bytes(io::count(got, room))
 }
 
 // Reads until the room is full or the input ends: a short read is gone on with.
-fn read_input(room: &mut [u8]) -> Input
+fn read_input(input: &mut impl Read, room: &mut [u8]) -> Input
     ensures { came result ≤ length room.new }
 {
     let mut n = 0;
     while n < room.len() {
-        let Input::Bytes(more) = read_once(&mut room[n..]) else {
+        let Input::Bytes(more) = read_once(input, &mut room[n..]) else {
             return Input::Failed;
         };
         if more == 0 {
@@ -41,17 +40,20 @@ fn read_input(room: &mut [u8]) -> Input
     Input::Bytes(n)
 }
 
+// A room that is long enough for every text.
+const ROOM: usize = 4096;
+
 // One byte more than a job record has is enough to tell.
-fn main() {
+fn main(rt: HostRuntime) {
     let mut input = [0u8; 20];
-    let Input::Bytes(n) = read_input(&mut input) else {
-        io::write_all(STDERR_FILENO, b"lister: cannot read standard input\n");
+    let Input::Bytes(n) = read_input(&mut rt.stdin(), &mut input) else {
+        let _ = eprintln!(rt; "lister: cannot read standard input");
         return;
     };
-    let mut text = io::buffer();
+    let mut text = [0u8; ROOM];
     let listed = listing::list(&input[..n], &mut text);
-    let len = listed.len;
-    if !io::write_all(STDOUT_FILENO, &text[..len]) {
-        io::write_all(STDERR_FILENO, b"lister: cannot write standard output\n");
+    let written = rt.write_all(&text[..listed.len]);
+    if written.is_err() {
+        let _ = eprintln!(rt; "lister: cannot write standard output");
     }
 }

@@ -1,36 +1,7 @@
--- Laws of the comparisons: an answer by its code and its number, four sums, and a room byte by byte. Assumes nothing.
+-- Laws of a room that is compared byte by byte. Assumes nothing.
 use Rattle.std.proofs.Common.{◌≡◌, ℕ, zero, suc, ◌+◌, ◌<◌, ◌≤◌, Bool, true, false, ◌&&◌, eqb, List, [], ◌∷◌, length, get_or, drop, sym, refl, ap, ◌∙◌, add-one, arith, drop_of_length-le, eq-eqb, ne_eqb}
 use lib.Seq.{drop-nil}
-use Rattle.answers.specs.declared.Answer.{Answer}
-use Rattle.answers.specs.Table.{code_of, number_of}
-use Rattle.overfull.specs.declared.Sums.{Sums}
-use Rattle.run_examples.specs.Compare.{given, same_sums, stands}
-
-pub other-code : (a : Answer) (r code number : ℕ) → r ≡ code_of a → (r ≡ code → ⊥) → false ≡ given a code number
-other-code a r code number e n = rw (ne_eqb (code_of a) code (λ p. n (e ∙ p)))
-
-pub that_code : (a : Answer) (r code s number : ℕ) → r ≡ code_of a → r ≡ code → s ≡ number_of a → eqb s number ≡ given a code number
-that_code a r code s number e p q = rw (eq-eqb (code_of a) code (sym e ∙ p), q)
-
--- four sums one after the other: the first that differs decides
-module _ (a b : Sums) where
-  pub left_differs : (a.left ≡ b.left → ⊥) → false ≡ same_sums a b
-  left_differs l = rw (ne_eqb a.left b.left l)
-
-  pub top_differs : a.left ≡ b.left → (a.top ≡ b.top → ⊥) → false ≡ same_sums a b
-  top_differs l t = rw (eq-eqb a.left b.left l, ne_eqb a.top b.top t)
-
-  pub right_differs : a.left ≡ b.left → a.top ≡ b.top → (a.right ≡ b.right → ⊥) → false ≡ same_sums a b
-  right_differs l t r = rw (eq-eqb a.left b.left l, eq-eqb a.top b.top t, ne_eqb a.right b.right r)
-
-  pub bottom_decides : a.left ≡ b.left → a.top ≡ b.top → a.right ≡ b.right → eqb a.bottom b.bottom ≡ same_sums a b
-  bottom_decides l t r = rw (eq-eqb a.left b.left l, eq-eqb a.top b.top t, eq-eqb a.right b.right r)
-
--- a place within the list: what would be past its end plays no part
-pub get_or-within : (l : List ℕ) (i d other : ℕ) → i < length l → get_or l i d ≡ get_or l i other
-get_or-within [] i d other h = absurd (omega arith)
-get_or-within (x ∷ l) zero d other h = refl
-get_or-within (x ∷ l) (suc i) d other h = get_or-within l i d other (omega arith)
+use Rattle.run_examples.specs.Compare.{stands}
 
 -- what is compared at place i, and what is still to compare
 abbrev here : List ℕ → List ℕ → ℕ → Bool

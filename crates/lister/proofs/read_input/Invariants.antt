@@ -1,0 +1,9 @@
+-- At most as many bytes came as the room has, and the room keeps its length.
+use Rattle.std.proofs.Common.{length, ◌-◌, ◌≤◌, ◌≡◌}
+use Rattle.lister.proofs.read_input.Given as goal
+
+abbrev pub invariant-loop-n : goal.invariant-loop-n
+invariant-loop-n g l = (l.n ≤ length l.room) × (length l.room ≡ length l.initial.room)
+
+abbrev pub decreases-loop-n : goal.decreases-loop-n
+decreases-loop-n g l = length l.initial.room - l.n
