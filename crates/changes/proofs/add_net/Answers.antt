@@ -14,21 +14,21 @@ returns-in_default c =
 
 pub returns-in_default-typed : goal.returns-in_default-typed
 returns-in_default-typed c =
-    let out = add_type _ _ _ ((sym c.test_start-started.ensures ∙ c.in-Done.is)) _ c.test_type-typed.ensures (not_done c.test_type-typed.result c.in_default-typed.not-Done) in
+    let out = add_type _ _ _ (sym c.test_start-started.ensures ∙ c.in-Done.is) _ c.test_type-typed.ensures (not_done c.test_type-typed.result c.in_default-typed.not-Done) in
     record { value = out.0; map_after = out.1 }
 
 pub lowest_free-k-requires : goal.lowest_free-k-requires
-lowest_free-k-requires c = let t = type_is _ (ap is_done ((sym c.test_type-typed.ensures ∙ c.in-Done-typed.is))) in ((start_served _ _ ((sym c.test_start-started.ensures ∙ c.in-Done.is))).1, t.0, t.1)
+lowest_free-k-requires c = let t = type_is _ (ap is_done (sym c.test_type-typed.ensures ∙ c.in-Done-typed.is)) in ((start_served _ _ (sym c.test_start-started.ensures ∙ c.in-Done.is)).1, t.0, t.1)
 
 pub returns-then-size-k : goal.returns-then-size-k
 returns-then-size-k c =
-    let out = add_none _ _ _ ((sym c.test_start-started.ensures ∙ c.in-Done.is)) ((sym c.test_type-typed.ensures ∙ c.in-Done-typed.is)) _ c.lowest_free-k.ensures c.if-size-k.true in
+    let out = add_none _ _ _ (sym c.test_start-started.ensures ∙ c.in-Done.is) (sym c.test_type-typed.ensures ∙ c.in-Done-typed.is) _ c.lowest_free-k.ensures c.if-size-k.true in
     record { value = out.0; map_after = out.1 }
 
 pub overflow_cast-result : goal.overflow_cast-result
-overflow_cast-result c = omega (arith, c.if-size-k.false, (start_served _ _ ((sym c.test_start-started.ensures ∙ c.in-Done.is))).1)
+overflow_cast-result c = omega (arith, c.if-size-k.false, (start_served _ _ (sym c.test_start-started.ensures ∙ c.in-Done.is)).1)
 
 pub returns : goal.returns
 returns c =
-    let out = add_done _ _ _ ((sym c.test_start-started.ensures ∙ c.in-Done.is)) ((sym c.test_type-typed.ensures ∙ c.in-Done-typed.is)) _ c.lowest_free-k.ensures c.if-size-k.false _ c.close_relay.ensures in
+    let out = add_done _ _ _ (sym c.test_start-started.ensures ∙ c.in-Done.is) (sym c.test_type-typed.ensures ∙ c.in-Done-typed.is) _ c.lowest_free-k.ensures c.if-size-k.false _ c.close_relay.ensures in
     record { value = out.0; map_after = out.1 }

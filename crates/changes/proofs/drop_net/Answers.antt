@@ -11,12 +11,12 @@ returns-in_default c =
 
 pub returns-then-size-relay : goal.returns-then-size-relay
 returns-then-size-relay c =
-    let out = drop_past _ _ _ ((sym c.test_start-started.ensures ∙ c.in-Done.is)) c.if-size-relay.true in
+    let out = drop_past _ _ _ (sym c.test_start-started.ensures ∙ c.in-Done.is) c.if-size-relay.true in
     record { value = out.0; map_after = out.1 }
 
 pub returns-then-not-is_closed : goal.returns-then-not-is_closed
 returns-then-not-is_closed c =
-    let out = drop_open _ _ _ ((sym c.test_start-started.ensures ∙ c.in-Done.is)) (sym c.is_closed.ensures ∙ c.if-not-is_closed.true) in
+    let out = drop_open _ _ _ (sym c.test_start-started.ensures ∙ c.in-Done.is) (sym c.is_closed.ensures ∙ c.if-not-is_closed.true) in
     record { value = out.0; map_after = out.1 }
 
 pub returns : goal.returns

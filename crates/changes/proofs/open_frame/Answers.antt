@@ -11,10 +11,10 @@ returns-in_default c =
 
 pub returns-then-room-bytes : goal.returns-then-room-bytes
 returns-then-room-bytes c =
-    let out = open_room_lem _ _ ((sym c.test_size-served.ensures ∙ c.in-Done.is)) _ c.map_length-bytes.ensures c.if-room-bytes.true in
+    let out = open_room_lem _ _ (sym c.test_size-served.ensures ∙ c.in-Done.is) _ c.map_length-bytes.ensures c.if-room-bytes.true in
     record { value = out.0; room_after = out.1 }
 
 pub returns : goal.returns
 returns c =
-    let out = open_done _ _ ((sym c.test_size-served.ensures ∙ c.in-Done.is)) _ c.map_length-bytes.ensures c.if-room-bytes.false _ c.clear.ensures in
+    let out = open_done _ _ (sym c.test_size-served.ensures ∙ c.in-Done.is) _ c.map_length-bytes.ensures c.if-room-bytes.false _ c.clear.ensures in
     record { value = out.0; room_after = out.1 }

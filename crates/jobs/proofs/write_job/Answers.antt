@@ -20,15 +20,15 @@ pub returns-then-room-needed : goal.returns-then-room-needed
 unfolding job_answer job_room
 returns-then-room-needed c =
     let start = c.args in
-    let out = room_refuses _ _ (job_record start.job) start.room.now ((sym c.test_size-served.ensures ∙ c.in-Done.is)) c.head_length-needed.ensures (omega arith) in
+    let out = room_refuses _ _ (job_record start.job) start.room.now (sym c.test_size-served.ensures ∙ c.in-Done.is) c.head_length-needed.ensures (omega arith) in
     record { value = out.0; room_after = out.1 }
 
 pub put_head-requires : goal.put_head-requires
-put_head-requires c = omega (arith, size_is _ (is_done_lem _ ((sym c.test_size-served.ensures ∙ c.in-Done.is))))
+put_head-requires c = omega (arith, size_is _ (is_done_lem _ (sym c.test_size-served.ensures ∙ c.in-Done.is)))
 
 pub returns : goal.returns
 unfolding job_answer job_room
 returns c =
     let start = c.args in
-    let out = all_put _ (job_record start.job) start.room.now ((sym c.test_size-served.ensures ∙ c.in-Done.is)) (omega arith) c.put_head.ensures in
+    let out = all_put _ (job_record start.job) start.room.now (sym c.test_size-served.ensures ∙ c.in-Done.is) (omega arith) c.put_head.ensures in
     record { value = out.0; room_after = out.1 }

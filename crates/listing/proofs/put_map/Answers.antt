@@ -10,4 +10,4 @@ pub put_nets-requires : goal.put_nets-requires
 put_nets-requires c = omega (arith, (is_map_text _ _ _ c.count_closed.ensures))
 
 pub returns : goal.returns
-returns c = wrote_as ((is_map_text _ _ _ c.count_closed.ensures)).text (wrote_append c.put_size_line-next.ensures c.put_nets.ensures)
+returns c = wrote_as (is_map_text _ _ _ c.count_closed.ensures).text (wrote_append c.put_size_line-next.ensures c.put_nets.ensures)

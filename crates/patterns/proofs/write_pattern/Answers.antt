@@ -22,19 +22,19 @@ pub returns-then-room-needed : goal.returns-then-room-needed
 unfolding pattern_answer pattern_room
 returns-then-room-needed c =
     let start = c.args in
-    let out = room_refuses _ _ (pattern_record start.job start.map.now) start.room.now ((sym c.check_map-answer.ensures ∙ c.in-Done.is)) (omega (arith, c.head_length-at.ensures)) (omega arith) in
+    let out = room_refuses _ _ (pattern_record start.job start.map.now) start.room.now (sym c.check_map-answer.ensures ∙ c.in-Done.is) (omega (arith, c.head_length-at.ensures)) (omega arith) in
     record { value = out.0; room_after = out.1 }
 
 pub put_head-requires : goal.put_head-requires
-put_head-requires c = omega (arith, checked _ _ _ ((sym c.check_map-answer.ensures ∙ c.in-Done.is)), c.head_length-at.ensures)
+put_head-requires c = omega (arith, checked _ _ _ (sym c.check_map-answer.ensures ∙ c.in-Done.is), c.head_length-at.ensures)
 
 pub put_tag-requires : goal.put_tag-requires
-put_tag-requires c = omega (arith, checked _ _ _ ((sym c.check_map-answer.ensures ∙ c.in-Done.is)))
+put_tag-requires c = omega (arith, checked _ _ _ (sym c.check_map-answer.ensures ∙ c.in-Done.is))
 
 pub returns : goal.returns
 unfolding pattern_answer pattern_room
 returns c =
     let start = c.args in
-    let out = all_put _ (pattern_record start.job start.map.now) start.room.now ((sym c.check_map-answer.ensures ∙ c.in-Done.is)) (omega (arith, c.head_length-at.ensures, c.if-room-needed.false))
+    let out = all_put _ (pattern_record start.job start.map.now) start.room.now (sym c.check_map-answer.ensures ∙ c.in-Done.is) (omega (arith, c.head_length-at.ensures, c.if-room-needed.false))
     (pattern_put start.room.now start.job start.map.now c.head_length-at.ensures c.put_head.ensures c.put_tag.ensures c.put_bytes.ensures) in
     record { value = out.0; room_after = out.1 }

@@ -25,7 +25,7 @@ pub returns-then-room-bytes : goal.returns-then-room-bytes
 unfolding route_answer route_room
 returns-then-room-bytes c =
     let given = c.args in
-    let out = out_room _ _ _ (map_for given.size given.counts) _ ((sym c.test_size-served.ensures ∙ c.in-Done.is)) c.map_length-bytes.ensures c.if-room-bytes.true in
+    let out = out_room _ _ _ (map_for given.size given.counts) _ (sym c.test_size-served.ensures ∙ c.in-Done.is) c.map_length-bytes.ensures c.if-room-bytes.true in
     record { value = out.0; room_after = out.1 }
 
 pub returns-in_default-over : goal.returns-in_default-over
@@ -33,16 +33,16 @@ unfolding route_answer route_room
 returns-in_default-over c =
     let given = c.args in
     let over = c.test_overfull-over in
-    let out = out_job _ _ _ (map_for given.size given.counts) _ _ ((sym c.test_size-served.ensures ∙ c.in-Done.is)) ((omega (arith, c.map_length-bytes.ensures, c.if-room-bytes.false))) over.ensures (not_done over.result c.in_default-over.not-Done) in
+    let out = out_job _ _ _ (map_for given.size given.counts) _ _ (sym c.test_size-served.ensures ∙ c.in-Done.is) (omega (arith, c.map_length-bytes.ensures, c.if-room-bytes.false)) over.ensures (not_done over.result c.in_default-over.not-Done) in
     record { value = out.0; room_after = out.1 }
 
 pub close_all-requires : goal.close_all-requires
-close_all-requires c = (within_test _ _ (four-within _ _ ((overfull-within _ _ (is_done_lem _ ((sym c.test_overfull-over.ensures ∙ c.in-Done-over.is)))))), (size_is c.args.size (is_done_lem _ ((sym c.test_size-served.ensures ∙ c.in-Done.is)))).1)
+close_all-requires c = (within_test _ _ (four-within _ _ (overfull-within _ _ (is_done_lem _ (sym c.test_overfull-over.ensures ∙ c.in-Done-over.is)))), (size_is c.args.size (is_done_lem _ (sym c.test_size-served.ensures ∙ c.in-Done.is))).1)
 
 pub returns : goal.returns
 unfolding route_answer route_room map_for
 returns c =
     let given = c.args in
-    let out = rule_out (frame given.size) _ _ _ _ (relays-below _ _ ((overfull-within _ _ (is_done_lem _ ((sym c.test_overfull-over.ensures ∙ c.in-Done-over.is)))))) ((sym c.test_size-served.ensures ∙ c.in-Done.is)) c.map_length-bytes.ensures c.if-room-bytes.false
-    ((sym c.test_overfull-over.ensures ∙ c.in-Done-over.is)) c.clear.ensures c.close_all.ensures in
+    let out = rule_out (frame given.size) _ _ _ _ (relays-below _ _ (overfull-within _ _ (is_done_lem _ (sym c.test_overfull-over.ensures ∙ c.in-Done-over.is)))) (sym c.test_size-served.ensures ∙ c.in-Done.is) c.map_length-bytes.ensures c.if-room-bytes.false
+    (sym c.test_overfull-over.ensures ∙ c.in-Done-over.is) c.clear.ensures c.close_all.ensures in
     record { value = out.0; room_after = out.1 }

@@ -38,10 +38,10 @@ overflow_add-next c = omega (arith, ((found _ _ _ _ (sym c.field_from-second.ens
 
 pub returns-then-left_from-ne0 : goal.returns-then-left_from-ne0
 returns-then-left_from-ne0 c =
-    ap (λ (r : JobRead). r.answer) (bytes_after _ ((begun _ c.field_from-first.ensures c.in-There.is c.byte_at.ensures c.test_size-tested.ensures
-    c.in-Done.is c.field_from-second.ensures c.in-There-second.is refl)) refl (omega (arith, c.left_from.ensures)))
+    ap (λ (r : JobRead). r.answer) (bytes_after _ (begun _ c.field_from-first.ensures c.in-There.is c.byte_at.ensures c.test_size-tested.ensures
+    c.in-Done.is c.field_from-second.ensures c.in-There-second.is refl) refl (omega (arith, c.left_from.ensures)))
 
 pub returns : goal.returns
 returns c =
-    ap (λ (r : JobRead). r.answer) (nothing_after _ ((begun _ c.field_from-first.ensures c.in-There.is c.byte_at.ensures c.test_size-tested.ensures
-    c.in-Done.is c.field_from-second.ensures c.in-There-second.is refl)) refl (omega (arith, c.left_from.ensures)))
+    ap (λ (r : JobRead). r.answer) (nothing_after _ (begun _ c.field_from-first.ensures c.in-There.is c.byte_at.ensures c.test_size-tested.ensures
+    c.in-Done.is c.field_from-second.ensures c.in-There-second.is refl) refl (omega (arith, c.left_from.ensures)))

@@ -12,7 +12,7 @@ pub returns-in_default-sort_relay : goal.returns-in_default-sort_relay
 returns-in_default-sort_relay c = c.not_wired-in_default-sort_relay.ensures ∙ wired_none _ _ _ c.test_size-answer.ensures c.in-Done.is (sym c.sort_relay.ensures ∙ c.in_default-sort_relay.is)
 
 pub returns-in_default-relay_terminals : goal.returns-in_default-relay_terminals
-returns-in_default-relay_terminals c = absurd (ends_always _ _ (sorted_is _ _ _ _ ((sym c.sort_relay.ensures ∙ c.in-Relay.is))).below (sym c.relay_terminals.ensures ∙ c.in_default-relay_terminals.is))
+returns-in_default-relay_terminals c = absurd (ends_always _ _ (sorted_is _ _ _ _ (sym c.sort_relay.ensures ∙ c.in-Relay.is)).below (sym c.relay_terminals.ensures ∙ c.in_default-relay_terminals.is))
 
 pub returns : goal.returns
-returns c = wired_found _ _ _ c.test_size-answer.ensures c.in-Done.is _ _ _ _ ((sym c.sort_relay.ensures ∙ c.in-Relay.is)) (sym c.relay_terminals.ensures ∙ c.in-Joined.is)
+returns c = wired_found _ _ _ c.test_size-answer.ensures c.in-Done.is _ _ _ _ (sym c.sort_relay.ensures ∙ c.in-Relay.is) (sym c.relay_terminals.ensures ∙ c.in-Joined.is)
