@@ -78,6 +78,7 @@ pub fn no_sums() -> Sums
 }
 
 // What stands beside an answer: with code 3 the four side sums, with any other code none.
+#[tactic(auto, unfolding(crate::specs::Overfull::sums_beside))]
 pub fn sums_beside(answer: Answer, counts: Counts) -> Sums
     ensures { result ≡ sums_beside answer (count_list counts) }
 {

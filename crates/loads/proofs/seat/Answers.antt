@@ -2,7 +2,7 @@ use Rattle.std.proofs.Common.{◌≡◌, ◌≤◌, ◌<◌, ◌⊎◌, length, 
 use borrow.Author.Count.{below_more}
 use lib.ListN.{length-set}
 use Rattle.counting.proofs.Lists.{between_at}
-use Rattle.loads.proofs.Trial.{Net, net_below, tried_all, tried_on, tried_off, tried_end, seat_first, seat_none}
+use Rattle.loads.proofs.Trial.{Net, tried_all, tried_on, tried_off, tried_end, seat_first, seat_none}
 use Rattle.loads.proofs.seat.Goals as goal
 use Rattle.loads.proofs.seat.Goals.{then-used-a, else-used-a+then-used-b}
 
@@ -18,37 +18,13 @@ net_ends-ends-requires c =
     let kind : (1 ≤ get_or c.args.types.now c.loop-j.j 0) × (get_or c.args.types.now c.loop-j.j 0 ≤ 6) = between_at 1 6 _ _ c.requires.1 inside in
     (kind.0, kind.1, omega arith)
 
-pub bounds-used-a : goal.bounds-used-a
-bounds-used-a c =
-    let net : Net c.args.types.now c.trial.s c.loop-j.j c.net_ends-ends.result.earlier c.net_ends-ends.result.later =
-    record { inside = search rules; touches = c.net_ends-ends.ensures } in
-    omega (arith, net_below _ _ _ _ _ c.requires.1 net)
-
-pub bounds-used-b : goal.bounds-used-b
-bounds-used-b c =
-    let net : Net c.args.types.now c.trial.s c.loop-j.j c.net_ends-ends.result.earlier c.net_ends-ends.result.later =
-    record { inside = search rules; touches = c.net_ends-ends.ensures } in
-    omega (arith, net_below _ _ _ _ _ c.requires.1 net)
-
-pub bounds-used-a-in-loop-j : goal.bounds-used-a-in-loop-j
-bounds-used-a-in-loop-j c =
-    let net : Net c.args.types.now c.trial.s c.loop-j.j c.net_ends-ends.result.earlier c.net_ends-ends.result.later =
-    record { inside = search rules; touches = c.net_ends-ends.ensures } in
-    omega (arith, net_below _ _ _ _ _ c.requires.1 net)
-
-pub bounds-used-b-in-loop-j : goal.bounds-used-b-in-loop-j
-bounds-used-b-in-loop-j c =
-    let net : Net c.args.types.now c.trial.s c.loop-j.j c.net_ends-ends.result.earlier c.net_ends-ends.result.later =
-    record { inside = search rules; touches = c.net_ends-ends.ensures } in
-    omega (arith, net_below _ _ _ _ _ c.requires.1 net)
-
 pub loop-j-preserved : goal.loop-j-preserved
 loop-j-preserved c =
     let net : Net c.args.types.now c.trial.s c.loop-j.j c.net_ends-ends.result.earlier c.net_ends-ends.result.later =
     record { inside = search rules; touches = c.net_ends-ends.ensures } in (
       omega arith,
       simp length-set c.loop-j.invariant.1,
-      c.loop-j.invariant.2 ∙ tried_on _ _ _ _ _ _ net c.if-used-a.false c.if-used-b.false,
+      c.loop-j.invariant.2 ∙ tried_on c.loop-j.used c.args.types.now c.trial.s c.loop-j.j c.net_ends-ends.result.earlier c.net_ends-ends.result.later net (search rules) (search rules),
     )
 
 pub trial-preserved : goal.trial-preserved
