@@ -105,6 +105,7 @@ pub fn add_net(size: u16, map: &mut [u8], kind: u16) -> Added
 }
 
 // Drops the net of a relay: opens it.
+#[tactic(auto, unfolding(crate::specs::Technician::call_answer, crate::specs::Technician::call_map, crate::specs::Technician::drop_test))]
 pub fn drop_net(size: u16, map: &mut [u8], relay: u16) -> Answer
     ensures value { result ≡ call_answer size map.old (dropping relay) }
     ensures map_after { map.new ≡ call_map size map.old (dropping relay) }

@@ -157,6 +157,7 @@ pub fn put_head(room: &mut [u8], job: Job)
 }
 
 // Writes a job record at the start of the room.
+#[tactic(auto, unfolding(crate::specs::Write::job_answer, crate::specs::Write::job_room))]
 pub fn write_job(room: &mut [u8], job: Job) -> Answer
     ensures value { result ≡ job_answer job room.old }
     ensures room_after { room.new ≡ job_room job room.old }

@@ -90,6 +90,7 @@ pub fn map_part<'a>(s: &'a [u8], read: PatternRead) -> &'a [u8]
 }
 
 // Writes a pattern record at the start of the room.
+#[tactic(auto, unfolding(crate::specs::Write::pattern_answer, crate::specs::Write::pattern_room))]
 pub fn write_pattern(room: &mut [u8], job: Job, map: &[u8]) -> Answer
     ensures value { result ≡ pattern_answer job map.now room.old }
     ensures room_after { room.new ≡ pattern_room job map.now room.old }

@@ -115,6 +115,7 @@ fn close_all(room: &mut [u8], w: usize, counts: Counts)
 }
 
 // The tests one after the other; past them the map is written at the start of the room.
+#[tactic(auto, unfolding(crate::specs::Router::route_answer, crate::specs::Router::route_room))]
 fn write_map(size: u16, counts: Counts, room: &mut [u8]) -> Answer
     ensures value { result ≡ route_answer size counts room.old }
     ensures room_after { room.new ≡ route_room size counts room.old }

@@ -1,7 +1,8 @@
 -- Each way out of the code is an outcome of the definitions.
 use mathlib.Core.Path.{sym, ◌∙◌}
+use borrow.Author.Rules.{rules}
 use Rattle.answers.proofs.Done.{not_done}
-use Rattle.changes.proofs.Ways.{drop_start, drop_past, drop_open, drop_done}
+use Rattle.changes.proofs.Ways.{drop_start, drop_past, drop_done}
 use Rattle.changes.proofs.drop_net.Goals as goal
 
 pub returns-in_default : goal.returns-in_default
@@ -14,12 +15,7 @@ returns-then-size-relay c =
     let out = drop_past _ _ _ (sym c.test_start-started.ensures ∙ c.in-Done.is) c.if-size-relay.true in
     record { value = out.0; map_after = out.1 }
 
-pub returns-then-not-is_closed : goal.returns-then-not-is_closed
-returns-then-not-is_closed c =
-    let out = drop_open _ _ _ (sym c.test_start-started.ensures ∙ c.in-Done.is) (sym c.is_closed.ensures ∙ c.if-not-is_closed.true) in
-    record { value = out.0; map_after = out.1 }
-
 pub returns : goal.returns
 returns c =
-    let out = drop_done _ _ _ (sym c.test_start-started.ensures ∙ c.in-Done.is) c.if-size-relay.false (sym c.is_closed.ensures ∙ c.if-not-is_closed.false) _ c.open_relay.ensures in
+    let out = drop_done _ _ _ (sym c.test_start-started.ensures ∙ c.in-Done.is) c.if-size-relay.false (search rules) _ c.open_relay.ensures in
     record { value = out.0; map_after = out.1 }

@@ -2,7 +2,7 @@
 use mathlib.Core.Path.{sym, ◌∙◌}
 use native.Mathlib.Omega.{arith}
 use Rattle.answers.proofs.Done.{not_done, is_done_lem}
-use Rattle.answers.proofs.Lent.{test_refuses, room_refuses, all_put}
+use Rattle.answers.proofs.Lent.{test_refuses, all_put}
 use Rattle.frame.proofs.Tests.{size_is}
 use Rattle.jobs.specs.Format.{job_record}
 use Rattle.jobs.specs.Write.{job_answer, job_room}
@@ -14,13 +14,6 @@ returns-in_default c =
     let start = c.args in
     let test = c.test_size-served in
     let out = test_refuses _ _ (job_record start.job) start.room.now test.result test.ensures (not_done test.result c.in_default.not-Done) in
-    record { value = out.0; room_after = out.1 }
-
-pub returns-then-room-needed : goal.returns-then-room-needed
-unfolding job_answer job_room
-returns-then-room-needed c =
-    let start = c.args in
-    let out = room_refuses _ _ (job_record start.job) start.room.now (sym c.test_size-served.ensures ∙ c.in-Done.is) c.head_length-needed.ensures (omega arith) in
     record { value = out.0; room_after = out.1 }
 
 pub put_head-requires : goal.put_head-requires

@@ -4,7 +4,11 @@ use lib.ListN.{length-set}
 use Rattle.counting.proofs.Lists.{between_at}
 use Rattle.loads.proofs.Trial.{Net, tried_all, tried_on, tried_off, tried_end, seat_first, seat_none}
 use Rattle.loads.proofs.seat.Goals as goal
-use Rattle.loads.proofs.seat.Goals.{then-used-a, else-used-a+then-used-b}
+use Rattle.loads.proofs.seat.Goals.{After-net_ends-ends, then-used-a, else-used-a+then-used-b}
+
+-- the net that is tried
+net : (c : After-net_ends-ends) → Net c.args.types.now c.trial.s c.loop-j.j c.net_ends-ends.result.earlier c.net_ends-ends.result.later
+net c = record { inside = search rules; touches = c.net_ends-ends.ensures }
 
 pub trial-init : goal.trial-init
 trial-init c = (omega arith, λ i h. absurd (omega arith))
@@ -20,20 +24,18 @@ net_ends-ends-requires c =
 
 pub loop-j-preserved : goal.loop-j-preserved
 loop-j-preserved c =
-    let net : Net c.args.types.now c.trial.s c.loop-j.j c.net_ends-ends.result.earlier c.net_ends-ends.result.later =
-    record { inside = search rules; touches = c.net_ends-ends.ensures } in (
+    let its = net (goal.at.loop-j-preserved c).After-net_ends-ends in (
       omega arith,
       simp length-set c.loop-j.invariant.1,
-      c.loop-j.invariant.2 ∙ tried_on c.loop-j.used c.args.types.now c.trial.s c.loop-j.j c.net_ends-ends.result.earlier c.net_ends-ends.result.later net (search rules) (search rules),
+      c.loop-j.invariant.2 ∙ tried_on c.loop-j.used c.args.types.now c.trial.s c.loop-j.j c.net_ends-ends.result.earlier c.net_ends-ends.result.later its (search rules) (search rules),
     )
 
 pub trial-preserved : goal.trial-preserved
 trial-preserved c =
-    let net : Net c.args.types.now c.trial.s c.loop-j.j c.net_ends-ends.result.earlier c.net_ends-ends.result.later =
-    record { inside = search rules; touches = c.net_ends-ends.ensures } in
+    let its = net (goal.at.trial-preserved c).After-net_ends-ends in
     let met : (get_or c.loop-j.used c.net_ends-ends.result.earlier false ≡ true) ⊎ (get_or c.loop-j.used c.net_ends-ends.result.later false ≡ true) =
     elim c.if-used-a.branch [ then-used-a w ↦ inl w.if-used-a.true | else-used-a+then-used-b w ↦ inr w.if-used-b.true ] in
-    (omega arith, below_more _ _ c.trial.invariant.1 (c.loop-j.invariant.2 ∙ tried_off _ _ _ _ _ _ net met))
+    (omega arith, below_more _ _ c.trial.invariant.1 (c.loop-j.invariant.2 ∙ tried_off _ _ _ _ _ _ its met))
 
 pub returns-after-trial : goal.returns-after-trial
 returns-after-trial c = seat_none _ _ c.requires.0 (omega arith) c.trial.invariant.1

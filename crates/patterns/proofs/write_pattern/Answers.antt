@@ -3,7 +3,7 @@
 use mathlib.Core.Path.{sym, ◌∙◌}
 use native.Mathlib.Omega.{arith}
 use Rattle.answers.proofs.Done.{not_done}
-use Rattle.answers.proofs.Lent.{test_refuses, room_refuses, all_put}
+use Rattle.answers.proofs.Lent.{test_refuses, all_put}
 use Rattle.map_check.proofs.Checked.{checked}
 use Rattle.patterns.specs.Format.{pattern_record}
 use Rattle.patterns.specs.Write.{pattern_answer, pattern_room}
@@ -18,13 +18,6 @@ returns-in_default c =
     let out = test_refuses _ _ (pattern_record start.job start.map.now) start.room.now check.result check.ensures (not_done check.result c.in_default.not-Done) in
     record { value = out.0; room_after = out.1 }
 
-pub returns-then-room-needed : goal.returns-then-room-needed
-unfolding pattern_answer pattern_room
-returns-then-room-needed c =
-    let start = c.args in
-    let out = room_refuses _ _ (pattern_record start.job start.map.now) start.room.now (sym c.check_map-answer.ensures ∙ c.in-Done.is) (omega (arith, c.head_length-at.ensures)) (omega arith) in
-    record { value = out.0; room_after = out.1 }
-
 pub put_head-requires : goal.put_head-requires
 put_head-requires c = omega (arith, checked _ _ _ (sym c.check_map-answer.ensures ∙ c.in-Done.is), c.head_length-at.ensures)
 
@@ -35,6 +28,6 @@ pub returns : goal.returns
 unfolding pattern_answer pattern_room
 returns c =
     let start = c.args in
-    let out = all_put _ (pattern_record start.job start.map.now) start.room.now (sym c.check_map-answer.ensures ∙ c.in-Done.is) (omega (arith, c.head_length-at.ensures, c.if-room-needed.false))
+    let out = all_put _ (pattern_record start.job start.map.now) start.room.now (sym c.check_map-answer.ensures ∙ c.in-Done.is) (omega (arith, c.head_length-at.ensures))
     (pattern_put start.room.now start.job start.map.now c.head_length-at.ensures c.put_head.ensures c.put_tag.ensures c.put_bytes.ensures) in
     record { value = out.0; room_after = out.1 }

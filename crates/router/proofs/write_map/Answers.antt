@@ -2,7 +2,7 @@
 use mathlib.Core.Path.{sym, ◌∙◌}
 use native.Mathlib.Omega.{arith}
 use Rattle.answers.proofs.Done.{is_done_lem, not_done}
-use Rattle.answers.proofs.Lent.{out_test, out_room, out_job}
+use Rattle.answers.proofs.Lent.{out_test, out_job}
 use Rattle.wiring.specs.Frame.{frame}
 use Rattle.wiring.proofs.Frame.{four-within}
 use Rattle.frame.proofs.Tests.{size_is}
@@ -21,19 +21,12 @@ returns-in_default c =
     let out = out_test _ _ _ (map_for given.size given.counts) _ _ c.test_size-served.ensures (not_done c.test_size-served.result c.in_default.not-Done) in
     record { value = out.0; room_after = out.1 }
 
-pub returns-then-room-bytes : goal.returns-then-room-bytes
-unfolding route_answer route_room
-returns-then-room-bytes c =
-    let given = c.args in
-    let out = out_room _ _ _ (map_for given.size given.counts) _ (sym c.test_size-served.ensures ∙ c.in-Done.is) c.map_length-bytes.ensures c.if-room-bytes.true in
-    record { value = out.0; room_after = out.1 }
-
 pub returns-in_default-over : goal.returns-in_default-over
 unfolding route_answer route_room
 returns-in_default-over c =
     let given = c.args in
     let over = c.test_overfull-over in
-    let out = out_job _ _ _ (map_for given.size given.counts) _ _ (sym c.test_size-served.ensures ∙ c.in-Done.is) (omega (arith, c.map_length-bytes.ensures, c.if-room-bytes.false)) over.ensures (not_done over.result c.in_default-over.not-Done) in
+    let out = out_job _ _ _ (map_for given.size given.counts) _ _ (sym c.test_size-served.ensures ∙ c.in-Done.is) (omega (arith, c.map_length-bytes.ensures)) over.ensures (not_done over.result c.in_default-over.not-Done) in
     record { value = out.0; room_after = out.1 }
 
 pub close_all-requires : goal.close_all-requires
@@ -43,6 +36,6 @@ pub returns : goal.returns
 unfolding route_answer route_room map_for
 returns c =
     let given = c.args in
-    let out = rule_out (frame given.size) _ _ _ _ (relays-below _ _ (overfull-within _ _ (is_done_lem _ (sym c.test_overfull-over.ensures ∙ c.in-Done-over.is)))) (sym c.test_size-served.ensures ∙ c.in-Done.is) c.map_length-bytes.ensures c.if-room-bytes.false
+    let out = rule_out (frame given.size) _ _ _ _ (relays-below _ _ (overfull-within _ _ (is_done_lem _ (sym c.test_overfull-over.ensures ∙ c.in-Done-over.is)))) (sym c.test_size-served.ensures ∙ c.in-Done.is) c.map_length-bytes.ensures (omega arith)
     (sym c.test_overfull-over.ensures ∙ c.in-Done-over.is) c.clear.ensures c.close_all.ensures in
     record { value = out.0; room_after = out.1 }
