@@ -1,7 +1,7 @@
 -- Lent room: long enough or not, and what a call that tests, asks for room and then writes leaves in it. Assumes nothing.
 use Prim.Native.Nat.{ℕ, ◌+◌, ◌≤◌, ◌<◌}
-use mathlib.Core.Path.{◌≡◌, refl, sym, ap, ◌∙◌}
-use mathlib.Core.Bool.{Bool, true, false, cond}
+use mathlib.Core.Path.{◌≡◌, sym, ap, ◌∙◌}
+use mathlib.Core.Bool.{true}
 use mathlib.Core.List.{List, ◌++◌}
 use native.Mathlib.Nat.{zero-add}
 use native.Mathlib.Omega.{arith}
@@ -9,21 +9,18 @@ use lib.ListN.{length, drop}
 use lib.Seq.{sets, sets-eq}
 use lib.Dec.{ltb}
 use borrow.Author.Tests.{ltb-false, lt-ltb, le-ltb}
-use Rattle.answers.specs.declared.Answer.{Answer}
-use Rattle.answers.specs.declared.Answer.TheVariants.{Done, Room}
+use Rattle.std.specs.Prelude.{Err}
+use Rattle.answers.specs.declared.Refusal.{Refusal}
+use Rattle.answers.specs.declared.Refusal.TheVariants.{Room}
+use Rattle.answers.specs.Answer.{Answer, Done}
 use Rattle.answers.specs.Lent.{is_done, and_then, room_for, over, lent_after}
-use Rattle.counting.proofs.Bools.{clear}
-use Rattle.answers.proofs.Done.{done_is, is_done_lem, not_done, both_done}
+use Rattle.answers.proofs.Done.{done_is, is_done_lem, not_done, both_done, if_refuses}
 
 -- room that is long enough
 pub room_is : (needed : ℕ) (room : List ℕ) → is_done (room_for needed room) ≡ true → needed ≤ length room
-room_is needed room e = go (ltb (length room) needed) refl e
-  where
-    go : (t : Bool) → ltb (length room) needed ≡ t → is_done (cond t (Room needed) Done) ≡ true → needed ≤ length room
-    go true l e = absurd (clear false e refl)
-    go false l e = ltb-false (length room) needed l
+room_is needed room e = ltb-false (length room) needed (if_refuses (ltb (length room) needed) (Room needed) e)
 
-pub room_short : (needed : ℕ) (room : List ℕ) → length room < needed → room_for needed room ≡ Room needed
+pub room_short : (needed : ℕ) (room : List ℕ) → length room < needed → room_for needed room ≡ Err (Room needed)
 room_short needed room h = rw (lt-ltb (length room) needed h)
 
 pub room-long : (needed : ℕ) (room : List ℕ) → needed ≤ length room → room_for needed room ≡ Done
@@ -43,8 +40,8 @@ abbrev pub Outcome : Answer → List ℕ → List ℕ → Answer → List ℕ �
 Outcome meant bytes room answer after = (answer ≡ meant) × (after ≡ lent_after meant bytes room)
 
 module _ (meant : Answer) (bytes room : List ℕ) where
-  pub out_refused : (a : Answer) → a ≡ meant → is_done a ≡ false → Outcome meant bytes room a room
-  out_refused a e d = (e, rw (← e, d))
+  pub out_refused : (r : Refusal) → meant ≡ Err r → Outcome meant bytes room (Err r) room
+  out_refused r e = (sym e, rw e)
 
   pub out_done : {after : List ℕ} → meant ≡ Done → after ≡ over bytes room → Outcome meant bytes room Done after
   out_done e f = (sym e, f ∙ rw e)
@@ -54,11 +51,11 @@ module _ (test : Answer) (needed : ℕ) (bytes room : List ℕ) where
   abbrev pub asked : Answer
   asked = and_then test (room_for needed room)
 
-  pub test_refuses : (a : Answer) → a ≡ test → is_done a ≡ false → Outcome asked bytes room a room
-  test_refuses a e d = out_refused asked bytes room a (rw (← e, d)) d
+  pub test_refuses : (r : Refusal) → test ≡ Err r → Outcome asked bytes room (Err r) room
+  test_refuses r e = out_refused asked bytes room r (rw e)
 
-  pub room_refuses : {n : ℕ} → test ≡ Done → n ≡ needed → length room < n → Outcome asked bytes room (Room n) room
-  room_refuses {n} d e h = out_refused asked bytes room (Room n) (rw (d, ← e) (rw (room_short n room h))) refl
+  pub room_refuses : {n : ℕ} → test ≡ Done → n ≡ needed → length room < n → Outcome asked bytes room (Err (Room n)) room
+  room_refuses {n} d e h = out_refused asked bytes room (Room n) (rw (d, ← e) (room_short n room h))
 
   pub asked_done : test ≡ Done → needed ≤ length room → asked ≡ Done
   asked_done d h = rw (d, room-long needed room h)
@@ -79,14 +76,14 @@ module _ (test : Answer) (needed : ℕ) (job : Answer) (bytes room : List ℕ) w
   abbrev pub routed : Answer
   routed = and_then test (and_then (room_for needed room) job)
 
-  pub out_test : (a : Answer) → a ≡ test → is_done a ≡ false → Outcome routed bytes room a room
-  out_test a e d = out_refused routed bytes room a (rw (← e, d)) d
+  pub out_test : (r : Refusal) → test ≡ Err r → Outcome routed bytes room (Err r) room
+  out_test r e = out_refused routed bytes room r (rw e)
 
-  pub out_room : {n : ℕ} → test ≡ Done → n ≡ needed → length room < n → Outcome routed bytes room (Room n) room
-  out_room {n} d e h = out_refused routed bytes room (Room n) (rw (d, ← e) (rw (room_short n room h))) refl
+  pub out_room : {n : ℕ} → test ≡ Done → n ≡ needed → length room < n → Outcome routed bytes room (Err (Room n)) room
+  out_room {n} d e h = out_refused routed bytes room (Room n) (rw (d, ← e) (rw (room_short n room h)))
 
-  pub out_job : (a : Answer) → test ≡ Done → needed ≤ length room → a ≡ job → is_done a ≡ false → Outcome routed bytes room a room
-  out_job a d h e f = out_refused routed bytes room a (rw (d, room-long needed room h) e) f
+  pub out_job : (r : Refusal) → test ≡ Done → needed ≤ length room → job ≡ Err r → Outcome routed bytes room (Err r) room
+  out_job r d h e = out_refused routed bytes room r (rw (d, room-long needed room h) e)
 
   pub all_done : test ≡ Done → needed ≤ length room → job ≡ Done → routed ≡ Done
   all_done d h e = rw (d, room-long needed room h) e

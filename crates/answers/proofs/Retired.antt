@@ -4,17 +4,20 @@ use mathlib.Core.Bool.{Bool, false, not}
 use denote.Enum.Declared.{Choice}
 use borrow.Author.Tests.{not-true}
 use Rattle.counting.specs.Lists.{among}
-use Rattle.answers.specs.contracts.Answer.{the_parts as parts, as_values, the_make as make, the_eta as eta}
+use Rattle.answers.specs.contracts.Refusal.{the_parts as parts, as_values, the_make as make, the_eta as eta}
 use Rattle.answers.proofs.Rows.{tests, passes, each_row}
-use Rattle.answers.specs.declared.Answer.{Answer}
-use Rattle.answers.specs.Table.{code_of, retired_codes}
+use Rattle.std.specs.Prelude.{Result, Ok, Err}
+use Rattle.answers.specs.declared.Refusal.{Refusal}
+use Rattle.answers.specs.Table.{refusal_code, code_of, retired_codes}
 
 abbrev in_use : Choice parts → Bool
-in_use row = not (among (code_of (make row)) retired_codes)
+in_use row = not (among (refusal_code (make row)) retired_codes)
 
 rows_in_use : tests parts in_use ≡ passes parts
 unfolding among
 rows_in_use = refl
 
-pub not_retired : (a : Answer) → among (code_of a) retired_codes ≡ false
-not_retired a = rw (← eta a) (not-true _ (each_row parts in_use rows_in_use (as_values a)))
+pub not_retired : {A : Type 0} (a : Result A Refusal) → among (code_of a) retired_codes ≡ false
+unfolding among
+not_retired (Ok x) = refl
+not_retired (Err r) = rw (← eta r) (not-true _ (each_row parts in_use rows_in_use (as_values r)))

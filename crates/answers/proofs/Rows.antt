@@ -1,5 +1,4 @@
 -- An enum gone through case by case by the checker itself, so that a case more or less changes no proof. Assumes nothing.
-use Prim.Native.Nat.{ℕ, suc}
 use mathlib.Core.Path.{◌≡◌, ap}
 use mathlib.Core.Logic.{inl, inr}
 use mathlib.Core.Bool.{Bool, true}
@@ -26,12 +25,3 @@ pub each_row : (rows : List (List Field)) (test : Choice rows → Bool) → test
 each_row [] test e c = absurd c
 each_row (row ∷ rows) test e (inl values) = ap (λ (t : Tests (row ∷ rows)). t.0 values) e
 each_row (row ∷ rows) test e (inr c) = each_row rows (λ d. test (inr d)) (ap (λ (t : Tests (row ∷ rows)). t.1) e) c
-
--- the places of all cases but the first, as a `let .. else` on the first has them
-abbrev pub tags_from : ℕ → List (List Field) → List ℕ
-tags_from i [] = []
-tags_from i (row ∷ rows) = i ∷ tags_from (suc i) rows
-
-abbrev pub other_tags : List (List Field) → List ℕ
-other_tags [] = []
-other_tags (row ∷ rows) = tags_from 1 rows

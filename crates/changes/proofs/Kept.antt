@@ -1,19 +1,20 @@
 -- What the calls keep, on maps: on a map that may be closed they do what the calls over relays do, and leave one that may be closed.
 -- Assumes nothing.
 use Prim.Native.Nat.{ℕ}
-use mathlib.Core.Path.{◌≡◌, refl, sym, ap, ◌∙◌, fun_ext}
+use mathlib.Core.Path.{◌≡◌, refl, ap, ◌∙◌, fun_ext}
 use mathlib.Core.Bool.{Bool, true, false, ◌&&◌, cond}
 use mathlib.Core.List.{List, [], ◌∷◌}
 use native.Mathlib.Omega.{arith}
 use lib.Dec.{ltb}
 use borrow.Author.Tests.{ltb-true, le-ltb}
-use Rattle.answers.specs.declared.Answer.{Answer}
-use Rattle.answers.specs.declared.Answer.TheVariants.{Done, NoneFree, NotClosed}
+use Rattle.std.specs.Prelude.{Ok, Err}
+use Rattle.answers.specs.declared.Refusal.{Refusal}
+use Rattle.answers.specs.declared.Refusal.TheVariants.{NoneFree, NotClosed}
+use Rattle.answers.specs.Answer.{Answer, Done}
 use Rattle.answers.specs.Lent.{is_done, and_then}
 use Rattle.wiring.specs.Frame.{frame}
 use Rattle.wiring.specs.Map.{closed_in, IsMap}
 use Rattle.wiring.specs.Calls.{Call, adding, dropping, granted, changed, after, after_all}
-use Rattle.counting.proofs.Bools.{clear}
 use Rattle.wiring.proofs.Frame.{frame_proper}
 use Rattle.wiring.proofs.Map.{closed_closed, closed_opened, byte_of, closed_map, opened_map}
 use Rattle.wiring.proofs.Free.{no_type}
@@ -25,28 +26,25 @@ use Rattle.changes.proofs.Answers.{type_there}
 use Rattle.changes.proofs.Ways.{map-refused, map-done}
 
 -- a test that answers done exactly if it passes
-cond-done : (b : Bool) (a : Answer) → is_done a ≡ false → is_done (cond b Done a) ≡ b
-cond-done true a e = refl
-cond-done false a e = e
+cond-done : (b : Bool) (r : Refusal) → is_done (cond b Done (Err r)) ≡ b
+cond-done true r = refl
+cond-done false r = refl
 
 free_test_lem : (W : ℕ) (m : List ℕ) (c : ℕ) → is_done (free_test W m c) ≡ ltb (relay_for W m c) (frame W).relays
 unfolding free_test
-free_test_lem W m c = cond-done (ltb (relay_for W m c) (frame W).relays) (NoneFree c) refl
+free_test_lem W m c = cond-done (ltb (relay_for W m c) (frame W).relays) (NoneFree c)
 
 drop_test_lem : (W : ℕ) (m : List ℕ) (k : ℕ) → is_done (drop_test W m k) ≡ (ltb k (frame W).relays && closed_in m k)
 unfolding drop_test
-drop_test_lem W m k = cond-done (ltb k (frame W).relays && closed_in m k) (NotClosed k) refl
+drop_test_lem W m k = cond-done (ltb k (frame W).relays && closed_in m k) (NotClosed k)
 
 -- a type that is not there has no relay, so no free one
 type_and_free : (W : ℕ) (m : List ℕ) (c : ℕ) → is_done (and_then (type_test c) (free_test W m c)) ≡ ltb (relay_for W m c) (frame W).relays
-type_and_free W m c = go (is_done (type_test c)) refl
+type_and_free W m c = go (type_test c) refl
   where
-    none : is_done (type_test c) ≡ false → relay_for W m c ≡ (frame W).relays
-    none e = no_type (frame W) (closed_in m) c (frame_proper W) (λ a b. clear (is_done (type_test c)) (ap is_done (sym (type_there c a b))) e)
-
-    go : (b : Bool) → is_done (type_test c) ≡ b → is_done (and_then (type_test c) (free_test W m c)) ≡ ltb (relay_for W m c) (frame W).relays
-    go true e = rw e (free_test_lem W m c)
-    go false e = rw (e, none e, le-ltb (frame W).relays (frame W).relays (omega arith)) e
+    go : (a : Answer) → type_test c ≡ a → is_done (and_then a (free_test W m c)) ≡ ltb (relay_for W m c) (frame W).relays
+    go (Ok x) e = free_test_lem W m c
+    go (Err r) e = rw (no_type (frame W) (closed_in m) c (frame_proper W) (λ a b. cc (type_there c a b)), le-ltb (frame W).relays (frame W).relays (omega arith))
 
 -- past the start's tests a call is done exactly if it is granted
 pub done-granted : (W : ℕ) (m : List ℕ) (call : Call) → start_test W m ≡ Done → is_done (call_answer W m call) ≡ granted (frame W) (closed_in m) call

@@ -5,11 +5,11 @@ use mathlib.Core.Bool.{Bool, true, false, not}
 use mathlib.Core.List.{List}
 use native.Mathlib.Omega.{arith}
 use Rattle.wiring.specs.Frame.{frame}
-use Rattle.wiring.specs.Change.{Taken, is_free, lowest_free}
+use Rattle.wiring.specs.Change.{Taken, AllTaken, LowestFree, is_free}
 use Rattle.wiring.proofs.Relays.{type_block, type_range, range_of}
-use Rattle.wiring.proofs.Free.{free_is, taken_is, is_lowest, all_taken}
+use Rattle.wiring.proofs.Free.{free_is, taken_is}
 use Rattle.marks.specs.Marks.{relay_marked, marks_of}
-use Rattle.marks.proofs.Marks.{frame_worded, marks_free}
+use Rattle.marks.proofs.Words.{frame_worded, marks_free}
 
 -- the relays from `from` up to k have a marked terminal each
 abbrev pub Marked : ℕ → List ℕ → ℕ → ℕ → Type 0
@@ -27,14 +27,14 @@ module _ (W c : ℕ) (closed : ℕ → Bool) (marks : List ℕ) (s : W ≤ 64) (
   inside k h = omega (arith, type_block W 6 c a b)
 
   -- the first relay of the type with no marked terminal
-  pub free-here : (k : ℕ) → (c - 1) * W ≤ k → k < c * W → Marked W marks ((c - 1) * W) k → relay_marked (frame W) marks k ≡ false → k ≡ lowest_free (frame W) closed c
-  free-here k p q none e = sym (is_lowest (frame W) closed c k (record {
+  pub free-here : (k : ℕ) → (c - 1) * W ≤ k → k < c * W → Marked W marks ((c - 1) * W) k → relay_marked (frame W) marks k ≡ false → LowestFree (frame W) closed c k
+  free-here k p q none e = record {
     there = inside k q;
     kind = type_range W c k a p q;
     free = free_is (frame W) closed k (told k (inside k q) ∙ rw e);
     lowest = λ j l t. let h : j < 6 * W = omega (arith, inside k q) in taken j h (none j l (range_of W 6 c j h t).0);
-  }))
+  }
 
   -- there is none
-  pub free_nowhere : (k : ℕ) → c * W ≤ k → Marked W marks ((c - 1) * W) k → 6 * W ≡ lowest_free (frame W) closed c
-  free_nowhere k p none = sym (all_taken (frame W) closed c (λ j h t. let r = range_of W 6 c j h t in taken j h (none j (omega arith) r.0)))
+  pub free_nowhere : (k : ℕ) → c * W ≤ k → Marked W marks ((c - 1) * W) k → AllTaken (frame W) closed c
+  free_nowhere k p none j h t = let r = range_of W 6 c j h t in taken j h (none j (omega arith) r.0)

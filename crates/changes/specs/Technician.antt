@@ -1,21 +1,20 @@
 -- What a technician's calls give on a lent map (requests, item 4): what one answers, the map after it, and the map after a sequence of
 -- them. Assumes nothing.
-use Rattle.std.specs.Prelude.{ℕ, ◌&&◌, cond, List, [], ◌∷◌, ltb}
+use Rattle.std.specs.Prelude.{ℕ, ◌&&◌, cond, List, [], ◌∷◌, ltb, Result, Ok, Err}
 use Rattle.counting.specs.Lists.{between}
-use Rattle.answers.specs.declared.Answer.{Answer}
-use Rattle.answers.specs.declared.Answer.TheVariants.{Done, Kind, NoneFree, NotClosed}
-use Rattle.answers.specs.Lent.{is_done, and_then, when_done}
+use Rattle.answers.specs.declared.Refusal.{Refusal}
+use Rattle.answers.specs.declared.Refusal.TheVariants.{Kind, NoneFree, NotClosed}
+use Rattle.answers.specs.Answer.{Answer, Done}
+use Rattle.answers.specs.Lent.{is_done, and_then}
 use Rattle.wiring.specs.Frame.{frame}
 use Rattle.wiring.specs.Map.{closed_in, with_closed, with_open}
 use Rattle.wiring.specs.Change.{lowest_free}
 use Rattle.wiring.specs.Calls.{Call, adding, dropping}
 use Rattle.changes.specs.Start.{start_test}
-use Rattle.changes.specs.declared.Added.{Added}
-use Rattle.changes.specs.declared.Added.TheVariants.{Closed, Refused}
 
 -- code 18: types are 1 to 6
 unfoldable pub type_test : ℕ → Answer
-type_test c = cond (between 1 6 c) Done (Kind c)
+type_test c = cond (between 1 6 c) Done (Err (Kind c))
 
 -- the relay that a net of type c closes; 6 W, the number of relays, if the type has no free relay
 abbrev pub relay_for : ℕ → List ℕ → ℕ → ℕ
@@ -23,11 +22,11 @@ relay_for W m c = lowest_free (frame W) (closed_in m) c
 
 -- code 19: the type has no free relay
 unfoldable pub free_test : ℕ → List ℕ → ℕ → Answer
-free_test W m c = cond (ltb (relay_for W m c) (frame W).relays) Done (NoneFree c)
+free_test W m c = cond (ltb (relay_for W m c) (frame W).relays) Done (Err (NoneFree c))
 
 -- code 20: the relay to drop is not there or not closed
 unfoldable pub drop_test : ℕ → List ℕ → ℕ → Answer
-drop_test W m k = cond (ltb k (frame W).relays && closed_in m k) Done (NotClosed k)
+drop_test W m k = cond (ltb k (frame W).relays && closed_in m k) Done (Err (NotClosed k))
 
 -- what a call answers: the start's tests come first
 unfoldable pub call_answer : ℕ → List ℕ → Call → Answer
@@ -49,10 +48,5 @@ calls_map W m [] = m
 calls_map W m (call ∷ calls) = calls_map W (call_map W m call) calls
 
 -- what adding gives: the relay that it closed, or its refusal
-unfoldable pub add_net : ℕ → List ℕ → ℕ → Added
-add_net W m c = when_done (call_answer W m (adding c)) Refused (Closed (relay_for W m c))
-
--- why no relay was closed; done where one was
-abbrev pub added_answer : Added → Answer
-added_answer (Closed k) = Done
-added_answer (Refused a) = a
+unfoldable pub add_net : ℕ → List ℕ → ℕ → Result ℕ Refusal
+add_net W m c = and_then (call_answer W m (adding c)) (Ok (relay_for W m c))

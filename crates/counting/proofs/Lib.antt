@@ -5,3 +5,4 @@ pub mod Tally
 pub mod Search
 pub mod Bits
 pub mod Sets
+pub mod Pairs

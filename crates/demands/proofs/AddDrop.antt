@@ -2,7 +2,7 @@
 use Prim.Native.Nat.{ℕ}
 use mathlib.Core.Path.{◌≡◌, sym, ap, ◌∙◌}
 use mathlib.Core.List.{List}
-use Rattle.answers.specs.declared.Answer.TheVariants.{Done}
+use Rattle.answers.specs.Answer.{Done}
 use Rattle.answers.proofs.Done.{is_done_lem, not_done, both_done}
 use Rattle.answers.proofs.Lent.{room_stays}
 use Rattle.wiring.specs.Frame.{frame}
@@ -17,7 +17,7 @@ use Rattle.frame.proofs.Grounds.{asked_codes, asked_told}
 use Rattle.router.specs.Route.{map_for}
 use Rattle.map_check.proofs.Meaning.{Closable, closed_is, is_closed_map}
 use Rattle.map_check.proofs.Told.{closed_told}
-use Rattle.jobs.specs.declared.Job.{Job}
+use Rattle.frame.specs.declared.Job.{Job}
 use Rattle.changes.specs.Start.{open_answer, open_map, open_room, start_test}
 use Rattle.changes.specs.Technician.{call_answer}
 use Rattle.changes.proofs.Answers.{start_first, drop_not_there, drop-granted, start_codes, add_codes, drop_codes}

@@ -1,4 +1,4 @@
--- The map of a read, as bytes of the record. Assumes nothing.
+-- A call that refuses, and the map of a read as bytes of the record. Assumes nothing.
 use Prim.Native.Nat.{ℕ, ◌+◌, ◌<◌}
 use mathlib.Core.Path.{◌≡◌, refl}
 use mathlib.Core.Bool.{Bool, true, false, cond}
@@ -9,11 +9,19 @@ use native.Mathlib.Decide.{dec_lt}
 use lib.ListN.{length, get_or, take, drop, length-take, get_or-eq_default}
 use lib.Seq.{get_or-take, get_or-drop}
 use Rattle.counting.specs.Lists.{Bytes}
-use Rattle.patterns.specs.declared.PatternRead.{PatternRead}
+use Rattle.std.specs.Prelude.{Result, Ok, Err}
+use Rattle.answers.specs.declared.Refusal.{Refusal}
+use Rattle.answers.specs.Answer.{Done, answer_of}
+use Rattle.patterns.specs.declared.Pattern.{Pattern}
 use Rattle.patterns.specs.Read.{part}
 use Rattle.patterns.specs.Part.{map_part}
 
-module _ (s : List ℕ) (r : PatternRead) where
+-- a call that is not done refuses
+pub refuses : {A : Type 0} (a : Result A Refusal) → (answer_of a ≡ Done → ⊥) → (r : Refusal) × (a ≡ Err r)
+refuses (Ok x) f = absurd (f refl)
+refuses (Err r) f = (r, refl)
+
+module _ (s : List ℕ) (r : Pattern) where
   pub no_map : r.len ≡ 0 → map_part s r ≡ []
   unfolding map_part
   no_map e = rw e (both (leb (r.start + 0) (length s)))

@@ -2,16 +2,16 @@
 use mathlib.Core.Path.{ap, ◌∙◌}
 use Rattle.wiring.specs.Frame.{four, relay}
 use Rattle.wiring.proofs.Frame.{joined}
-use Rattle.wires.specs.declared.Wired.{Wired}
-use Rattle.wires.proofs.HowWired.{wired_codes, wired_told, wired_refused, wired_there, wired_served, wired_joins}
+use Rattle.answers.specs.Answer.{answer_of}
+use Rattle.wires.proofs.HowWired.{wired_codes, relay_told, wired_refused, wired_there, wired_served, wired_joins}
 use Rattle.demands.specs.Wires.{Wires}
 
 pub wires : Wires
 wires = record {
   codes = wired_codes;
-  told = wired_told;
+  told = relay_told;
   refused = wired_refused;
-  done = λ W k s h. ap (λ (r : Wired). r.answer) (wired_there W k s h);
+  done = λ W k s h. ap answer_of (wired_there W k s h);
   there = wired_served;
   joins = wired_joins;
   joined = λ W c p q s a b x y e. let j = joined four W c p q a b x y e in wired_there W (relay W c p) s j.there ∙ rw (j.typed, j.second, j.first);

@@ -1,8 +1,9 @@
 -- What is promised of nets that are added and dropped one by one (requests, item 4), over the definitions that the contracts cite. Proved
 -- in proofs/AddDrop.antt. The three demands stay as they are, for whole jobs. Assumes nothing.
-use Rattle.std.specs.Prelude.{ℕ, suc, ◌-◌, ◌≤◌, ◌<◌, ◌≡◌, ◌≢◌, true, false, List, [], ◌∷◌, length, set}
+use Rattle.std.specs.Prelude.{ℕ, suc, ◌-◌, ◌≤◌, ◌<◌, ◌≡◌, ◌≢◌, true, false, List, [], ◌∷◌, length, set, Ok, Err}
 use Rattle.counting.specs.Lists.{Bytes}
-use Rattle.answers.specs.declared.Answer.TheVariants.{Done, Kind, NoneFree, NotClosed}
+use Rattle.answers.specs.declared.Refusal.TheVariants.{Kind, NoneFree, NotClosed}
+use Rattle.answers.specs.Answer.{Done, answer_of}
 use Rattle.answers.specs.Table.{CodeIn}
 use Rattle.answers.specs.Lent.{over}
 use Rattle.wiring.specs.Wiring.{nets, Apart}
@@ -16,10 +17,9 @@ use Rattle.frame.specs.Told.{RoomTold}
 use Rattle.map_check.specs.Told.{MapTold}
 use Rattle.router.specs.Route.{map_for}
 use Rattle.router.specs.Router.{route_answer}
-use Rattle.jobs.specs.declared.Job.{Job}
-use Rattle.changes.specs.declared.Added.TheVariants.{Closed}
+use Rattle.frame.specs.declared.Job.{Job}
 use Rattle.changes.specs.Start.{open_answer, open_map, open_room, start_test}
-use Rattle.changes.specs.Technician.{call_answer, call_map, calls_map, add_net, added_answer}
+use Rattle.changes.specs.Technician.{call_answer, call_map, calls_map, add_net}
 use Rattle.demands.specs.Demands.{Pattern}
 
 -- a map from which one may start
@@ -37,7 +37,7 @@ pub record AddDrop : Type 0 where
   pub pattern_starts : (j : Job) (m : List ℕ) → Pattern j m → Start j.size m
   -- each call makes the start's tests first, and what adding gives has the call's answer
   pub start_refused : (W : ℕ) (m : List ℕ) (call : Call) → (start_test W m ≡ Done → ⊥) → call_answer W m call ≡ start_test W m
-  pub added : (W : ℕ) (m : List ℕ) (c : ℕ) → added_answer (add_net W m c) ≡ call_answer W m (adding c)
+  pub added : (W : ℕ) (m : List ℕ) (c : ℕ) → answer_of (add_net W m c) ≡ call_answer W m (adding c)
   -- the codes that each call can give, and the numbers of the first four; 18, 19 and 20 stand below
   pub open_codes : (W : ℕ) (room : List ℕ) → CodeIn (0 ∷ 1 ∷ 2 ∷ []) (open_answer W room)
   pub start_codes : (W : ℕ) (m : List ℕ) → CodeIn (0 ∷ 1 ∷ 2 ∷ 11 ∷ 12 ∷ []) (start_test W m)
@@ -57,15 +57,15 @@ pub record AddDrop : Type 0 where
   pub stands_closed : (W : ℕ) (m : List ℕ) (calls : List Call) (k : ℕ) → Start W m → k < (frame W).relays
       → Stands (frame W) (closed_in m) calls k → closed_in (calls_map W m calls) k ≡ true
   -- adding closes the lowest-numbered free relay of the type, and no other; it opens none
-  pub lowest : (W : ℕ) (m : List ℕ) (c k : ℕ) → add_net W m c ≡ Closed k → LowestFree (frame W) (closed_in m) c k
-  pub add_own : (W : ℕ) (m : List ℕ) (c k : ℕ) → Start W m → add_net W m c ≡ Closed k
+  pub lowest : (W : ℕ) (m : List ℕ) (c k : ℕ) → add_net W m c ≡ Ok k → LowestFree (frame W) (closed_in m) c k
+  pub add_own : (W : ℕ) (m : List ℕ) (c k : ℕ) → Start W m → add_net W m c ≡ Ok k
       → let after = call_map W m (adding c) in (closed_in after k ≡ true) × OthersStay m after k
   pub add_opens_none : (W : ℕ) (m : List ℕ) (c j : ℕ) → Start W m → closed_in m j ≡ true → closed_in (call_map W m (adding c)) j ≡ true
   -- it is refused exactly if the type is not there, or has no relay with both terminals free
-  pub type_refused : (W : ℕ) (m : List ℕ) (c : ℕ) → Start W m → (1 ≤ c → c ≤ 6 → ⊥) → call_answer W m (adding c) ≡ Kind c
+  pub type_refused : (W : ℕ) (m : List ℕ) (c : ℕ) → Start W m → (1 ≤ c → c ≤ 6 → ⊥) → call_answer W m (adding c) ≡ Err (Kind c)
   pub none_free : (W : ℕ) (m : List ℕ) (c : ℕ) → Start W m → 1 ≤ c → c ≤ 6 → AllTaken (frame W) (closed_in m) c
-      → call_answer W m (adding c) ≡ NoneFree c
-  pub free_none : (W : ℕ) (m : List ℕ) (c : ℕ) → Start W m → call_answer W m (adding c) ≡ NoneFree c → AllTaken (frame W) (closed_in m) c
+      → call_answer W m (adding c) ≡ Err (NoneFree c)
+  pub free_none : (W : ℕ) (m : List ℕ) (c : ℕ) → Start W m → call_answer W m (adding c) ≡ Err (NoneFree c) → AllTaken (frame W) (closed_in m) c
   pub some_free : (W : ℕ) (m : List ℕ) (c : ℕ) → Start W m → 1 ≤ c → c ≤ 6 → (AllTaken (frame W) (closed_in m) c → ⊥)
       → call_answer W m (adding c) ≡ Done
   -- dropping opens its own relay, and no other; it is refused exactly if that relay is not there or not closed
@@ -74,14 +74,14 @@ pub record AddDrop : Type 0 where
   pub drop_done : (W : ℕ) (m : List ℕ) (k : ℕ) → Start W m → k < (frame W).relays → closed_in m k ≡ true
       → call_answer W m (dropping k) ≡ Done
   pub drop_refused : (W : ℕ) (m : List ℕ) (k : ℕ) → Start W m → (k < (frame W).relays → closed_in m k ≡ true → ⊥)
-      → call_answer W m (dropping k) ≡ NotClosed k
+      → call_answer W m (dropping k) ≡ Err (NotClosed k)
   -- room that was freed serves again: both terminals of the dropped relay are free, and a net of its type is added
   pub freed : (W : ℕ) (m : List ℕ) (k : ℕ) → Start W m → call_answer W m (dropping k) ≡ Done
       → Free (frame W) (closed_in (call_map W m (dropping k))) k
   pub freed_serves : (W : ℕ) (m : List ℕ) (k : ℕ) → Start W m → call_answer W m (dropping k) ≡ Done
       → call_answer W (call_map W m (dropping k)) (adding ((frame W).type_of k)) ≡ Done
   -- where the map carried a job, it carries one net more or one net less
-  pub add_carries : (W : ℕ) (m n : List ℕ) (c k : ℕ) → Start W m → length n ≡ 6 → MapCarries (frame W) n m → add_net W m c ≡ Closed k
+  pub add_carries : (W : ℕ) (m n : List ℕ) (c k : ℕ) → Start W m → length n ≡ 6 → MapCarries (frame W) n m → add_net W m c ≡ Ok k
       → MapCarries (frame W) (set n (c - 1) (suc (nets n c))) (call_map W m (adding c))
   pub drop_carries : (W : ℕ) (m n : List ℕ) (k : ℕ) → Start W m → length n ≡ 6 → MapCarries (frame W) n m
       → call_answer W m (dropping k) ≡ Done

@@ -1,11 +1,11 @@
 -- What is promised: the three demands over the definitions that the contracts cite. Each is proved in proofs/Demands.antt.
 -- That every input is taken, and that every call ends without a fault, is proved of each function itself: no function that others
 -- call has a `requires`. (A few leaves that only our own crates call have one; docs/DECISIONS.md lists them.) Assumes nothing.
-use Rattle.std.specs.Prelude.{ℕ, ◌+◌, ◌≤◌, ◌<◌, ◌≡◌, Bool, false, ◌&&◌, List, [], ◌∷◌, ◌++◌, eqb, length, take, drop, replicate}
+use Rattle.std.specs.Prelude.{ℕ, ◌+◌, ◌≤◌, ◌<◌, ◌≡◌, Bool, false, ◌&&◌, List, [], ◌∷◌, ◌++◌, eqb, length, take, drop, replicate, Ok}
+use Rattle.std.specs.Result.{result_unwrap_or}
 use Rattle.counting.specs.Count.{count}
 use Rattle.counting.specs.Lists.{among, Bytes}
-use Rattle.answers.specs.declared.Answer.{Answer}
-use Rattle.answers.specs.declared.Answer.TheVariants.{Done}
+use Rattle.answers.specs.Answer.{Answer, Done, answer_of}
 use Rattle.answers.specs.Table.{code_of, number_of, retired_codes, CodeIn}
 use Rattle.answers.specs.Lent.{over}
 use Rattle.wiring.specs.Wiring.{earlier, later, Within, Carries}
@@ -21,13 +21,14 @@ use Rattle.router.specs.Route.{relays_for, map_for}
 use Rattle.router.specs.Router.{route_answer, route_room, routed}
 use Rattle.map_check.specs.Check.{closed_test, check_map}
 use Rattle.map_check.specs.Told.{MapTold}
-use Rattle.jobs.specs.declared.Job.{Job}
+use Rattle.frame.specs.declared.Job.{Job}
 use Rattle.jobs.specs.Format.{job_record}
-use Rattle.jobs.specs.Read.{empty_job, read_job}
+use Rattle.jobs.specs.Read.{empty_job, job_told, read_job}
 use Rattle.jobs.specs.Write.{job_answer, job_room}
 use Rattle.jobs.specs.Told.{WholeJob, ReadTold}
+use Rattle.patterns.specs.declared.Pattern.{Pattern as ReadPattern}
 use Rattle.patterns.specs.Format.{pattern_record}
-use Rattle.patterns.specs.Read.{part, check_job, read_pattern}
+use Rattle.patterns.specs.Read.{part, check_job, pattern_told, read_pattern}
 use Rattle.patterns.specs.Part.{map_part}
 use Rattle.patterns.specs.Write.{pattern_answer, pattern_room}
 use Rattle.patterns.specs.Told.{WholePattern, MapRefused}
@@ -48,16 +49,16 @@ pub record Demand1 : Type 0 where
   -- the codes that each call can give
   pub route_codes : (W : ℕ) (n : Counts) (room : List ℕ) → CodeIn (0 ∷ 1 ∷ 2 ∷ 3 ∷ []) (route_answer W n room)
   pub check_codes : (W : ℕ) (n m : List ℕ) → CodeIn (0 ∷ 1 ∷ 2 ∷ 11 ∷ 12 ∷ 13 ∷ []) (check_map W n m)
-  pub read_job_codes : (s : List ℕ) → CodeIn (0 ∷ 1 ∷ 7 ∷ 8 ∷ 9 ∷ 10 ∷ []) (read_job s).answer
-  pub read_pattern_codes : (s : List ℕ) → CodeIn (0 ∷ 1 ∷ 7 ∷ 8 ∷ 9 ∷ 10 ∷ 11 ∷ 12 ∷ 13 ∷ []) (read_pattern s).answer
+  pub read_job_codes : (s : List ℕ) → CodeIn (0 ∷ 1 ∷ 7 ∷ 8 ∷ 9 ∷ 10 ∷ []) (read_job s)
+  pub read_pattern_codes : (s : List ℕ) → CodeIn (0 ∷ 1 ∷ 7 ∷ 8 ∷ 9 ∷ 10 ∷ 11 ∷ 12 ∷ 13 ∷ []) (read_pattern s)
   pub write_job_codes : (j : Job) (room : List ℕ) → CodeIn (0 ∷ 1 ∷ 2 ∷ []) (job_answer j room)
   pub write_pattern_codes : (j : Job) (map room : List ℕ) → CodeIn (0 ∷ 1 ∷ 2 ∷ 11 ∷ 12 ∷ 13 ∷ []) (pattern_answer j map room)
-  pub list_codes : (s room : List ℕ) → CodeIn (0 ∷ 2 ∷ []) (listed s room).answer
+  pub list_codes : (s room : List ℕ) → CodeIn (0 ∷ 2 ∷ []) (listed s room)
   -- and the number is the table's: the size, the length needed ..
   pub route_told : (W : ℕ) (n : Counts) (room : List ℕ) → RoomTold W (map_bytes W) room (route_answer W n room)
   pub write_job_told : (j : Job) (room : List ℕ) → RoomTold j.size (length (job_record j)) room (job_answer j room)
-  pub list_told : (s room : List ℕ) → code_of (listed s room).answer ≡ 2
-      → (number_of (listed s room).answer ≡ most_text) × (length room < most_text)
+  pub list_told : (s room : List ℕ) → code_of (listed s room) ≡ 2
+      → (number_of (listed s room) ≡ most_text) × (length room < most_text)
   -- .. with code 3, which comes after 1 and 2, all the overfull sides, and the four sums beside it; with any other code, done too, no sum
   pub overfull_told : (W : ℕ) (n : Counts) (room : List ℕ) → let told = routed W n room in code_of told.answer ≡ 3
       → Served W × (map_bytes W ≤ length room) × SidesTold W n (number_of told.answer) told.sums
@@ -71,17 +72,17 @@ pub record Demand1 : Type 0 where
       → RoomTold j.size (length (pattern_record j map)) room (pattern_answer j map room)
   -- .. the offset of a field, before which whole fields stand, or of the first byte after a whole record; and with 11, 12 and 13 the bytes are
   -- a whole pattern record, and the answer is the map check's
-  pub read_job_told : (s : List ℕ) → Bytes s → ReadTold s WholeJob (read_job s).answer
-  pub read_pattern_told : (s : List ℕ) → Bytes s → ReadTold s WholePattern (read_pattern s).answer
-  pub read_pattern_map : (s : List ℕ) → Bytes s → 11 ≤ code_of (read_pattern s).answer → MapRefused s (read_pattern s).answer
+  pub read_job_told : (s : List ℕ) → Bytes s → ReadTold s WholeJob (read_job s)
+  pub read_pattern_told : (s : List ℕ) → Bytes s → ReadTold s WholePattern (read_pattern s)
+  pub read_pattern_map : (s : List ℕ) → Bytes s → 11 ≤ code_of (read_pattern s) → MapRefused s (answer_of (read_pattern s))
   -- a refusal leaves lent room as it came, and gives no job, no map and no text
   pub router_refuses : (W : ℕ) (n : Counts) (room : List ℕ) → (route_answer W n room ≡ Done → ⊥) → route_room W n room ≡ room
   pub job_writer_refuses : (j : Job) (room : List ℕ) → (job_answer j room ≡ Done → ⊥) → job_room j room ≡ room
   pub pattern_writer_refuses : (j : Job) (map room : List ℕ) → (pattern_answer j map room ≡ Done → ⊥) → pattern_room j map room ≡ room
-  pub lister_refuses : (s room : List ℕ) → ((listed s room).answer ≡ Done → ⊥) → (listed_room s room ≡ room) × ((listed s room).len ≡ 0)
-  pub job_reader_refuses : (s : List ℕ) → ((read_job s).answer ≡ Done → ⊥) → (read_job s).job ≡ empty_job
-  pub pattern_reader_refuses : (s : List ℕ) → ((read_pattern s).answer ≡ Done → ⊥)
-      → ((read_pattern s).job ≡ empty_job) × (map_part s (read_pattern s) ≡ [])
+  pub lister_refuses : (s room : List ℕ) → (answer_of (listed s room) ≡ Done → ⊥) → (listed_room s room ≡ room) × (result_unwrap_or (listed s room) 0 ≡ 0)
+  pub job_reader_refuses : (s : List ℕ) → (answer_of (read_job s) ≡ Done → ⊥) → job_told (read_job s) ≡ empty_job
+  pub pattern_reader_refuses : (s : List ℕ) → (answer_of (read_pattern s) ≡ Done → ⊥)
+      → ((pattern_told (read_pattern s)).job ≡ empty_job) × (map_part s (pattern_told (read_pattern s)) ≡ [])
   -- what the router closes carries the job
   pub no_default : (W : ℕ) (n : Counts) (room : List ℕ) → route_answer W n room ≡ Done
       → MapCarries (frame W) (count_list n) (take (map_bytes W) (route_room W n room))
@@ -109,24 +110,22 @@ pub record Demand2 : Type 0 where
   -- the record reads back to the same size, counts and relays
   pub pattern_back : (j : Job) (map room : List ℕ) → pattern_answer j map room ≡ Done
       → let s = take (length (pattern_record j map)) (pattern_room j map room) in
-      ((read_pattern s).answer ≡ Done) × ((read_pattern s).job ≡ j) × (map_part s (read_pattern s) ≡ map)
+      (p : ReadPattern) × (read_pattern s ≡ Ok p) × (p.job ≡ j) × (map_part s p ≡ map)
   pub job_back : (j : Job) (room : List ℕ) → job_answer j room ≡ Done
-      → let s = take (length (job_record j)) (job_room j room) in ((read_job s).answer ≡ Done) × ((read_job s).job ≡ j)
+      → let s = take (length (job_record j)) (job_room j room) in read_job s ≡ Ok j
   -- every record that the reader accepts is written again as the same bytes
-  pub pattern_again : (s : List ℕ) → Bytes s → (read_pattern s).answer ≡ Done → (room : List ℕ) → length s ≤ length room
-      → let job = (read_pattern s).job in
-      let map = map_part s (read_pattern s) in
-      (pattern_answer job map room ≡ Done) × (pattern_room job map room ≡ over s room)
-  pub job_again : (s : List ℕ) → Bytes s → (read_job s).answer ≡ Done → (room : List ℕ) → length s ≤ length room
-      → (job_answer (read_job s).job room ≡ Done) × (job_room (read_job s).job room ≡ over s room)
+  pub pattern_again : (s : List ℕ) → Bytes s → (p : ReadPattern) → read_pattern s ≡ Ok p → (room : List ℕ) → length s ≤ length room
+      → let map = map_part s p in
+      (pattern_answer p.job map room ≡ Done) × (pattern_room p.job map room ≡ over s room)
+  pub job_again : (s : List ℕ) → Bytes s → (j : Job) → read_job s ≡ Ok j → (room : List ℕ) → length s ≤ length room
+      → (job_answer j room ≡ Done) × (job_room j room ≡ over s room)
   -- and what it accepts as a pattern is one; its map is the part of the record that a program in C is told by place and length
-  pub pattern_read : (s : List ℕ) → Bytes s → (read_pattern s).answer ≡ Done → Pattern (read_pattern s).job (map_part s (read_pattern s))
-  pub pattern_part : (s : List ℕ) → (read_pattern s).answer ≡ Done
-      → let read = read_pattern s in (read.start + read.len ≤ length s) × (map_part s read ≡ part s read.start read.len)
+  pub pattern_read : (s : List ℕ) → Bytes s → (p : ReadPattern) → read_pattern s ≡ Ok p → Pattern p.job (map_part s p)
+  pub pattern_part : (s : List ℕ) (p : ReadPattern) → read_pattern s ≡ Ok p
+      → (p.start + p.len ≤ length s) × (map_part s p ≡ part s p.start p.len)
   -- the lister's first line has the size and the number of the job's nets, and then a line comes for each closed relay of that map
-  pub lines : (s : List ℕ) → (read_job s).answer ≡ Done → let job = (read_job s).job in
-      route_answer job.size job.counts (replicate 48 0) ≡ Done
-      → let W = job.size in text_of s ≡ size_line W (total job.counts) ++ net_lines W (map_for W job.counts) (frame W).relays
+  pub lines : (s : List ℕ) (j : Job) → read_job s ≡ Ok j → route_answer j.size j.counts (replicate 48 0) ≡ Done
+      → let W = j.size in text_of s ≡ size_line W (total j.counts) ++ net_lines W (map_for W j.counts) (frame W).relays
 
 -- Demand 3. For each size from 1 to 64, all counts and a room long enough for the map, three verdicts agree.
 abbrev pub RouterDone : ℕ → Counts → List ℕ → Type 0

@@ -1,7 +1,7 @@
 -- Why row 14 of the scope's table, a side sum above W in the map check, could go (requests, item 7). Proved in proofs/Retired.antt. That
 -- no answer has its code is in the first demand. Assumes nothing.
 use Rattle.std.specs.Prelude.{ℕ, ◌≡◌, Bool, List}
-use Rattle.answers.specs.declared.Answer.TheVariants.{Done}
+use Rattle.answers.specs.Answer.{Done}
 use Rattle.wiring.specs.Wiring.{Within, Wiring, Proper, Carries}
 use Rattle.wiring.specs.Frame.{four}
 use Rattle.map_check.specs.Check.{form_test, shared_test, counts_test}

@@ -1,7 +1,7 @@
 -- A technician's calls give what they must: computed. Assumes nothing.
 use mathlib.Core.Path.{◌≡◌, refl}
 use mathlib.Core.List.{[], ◌∷◌}
-use Rattle.answers.specs.declared.Answer.TheVariants.{Done}
+use Rattle.answers.specs.Answer.{Done}
 use Rattle.counting.specs.Count.{first_from, any_below, count, sum_to}
 use Rattle.counting.specs.Lists.{among, distinct}
 use Rattle.wiring.specs.Frame.{type_in, place_in}

@@ -1,7 +1,7 @@
 -- The scope's starred bench examples, with code 3 as the requests' item 3 has it, as one list, and what it means that one of them holds.
 -- Assumes nothing.
 use Rattle.std.specs.Prelude.{ℕ, ◌≡◌, List, [], ◌∷◌, replicate}
-use Rattle.answers.specs.declared.Answer.{Answer}
+use Rattle.answers.specs.Answer.{Answer}
 use Rattle.answers.specs.Table.{code_of, number_of}
 use Rattle.answers.specs.Lent.{over}
 use Rattle.frame.specs.declared.Counts.{Counts}

@@ -1,6 +1,6 @@
 -- A size's test and a lent room's, case by case: what holds of done, and of each refusal on its ground, holds of the answer. Assumes nothing.
 use Prim.Native.Nat.{ℕ, ◌≤◌, ◌<◌}
-use mathlib.Core.Path.{◌≡◌, refl}
+use mathlib.Core.Path.{refl}
 use mathlib.Core.Logic.{⊎_elim}
 use mathlib.Core.List.{List, [], ◌∷◌}
 use native.Mathlib.Omega.{arith}
@@ -8,8 +8,9 @@ use lib.Dec.{ltb}
 use lib.ListN.{length}
 use borrow.Author.Tests.{ltb-true}
 use Rattle.counting.specs.Lists.{among}
-use Rattle.answers.specs.declared.Answer.{Answer}
-use Rattle.answers.specs.declared.Answer.TheVariants.{Done, Size, Room}
+use Rattle.std.specs.Prelude.{Err}
+use Rattle.answers.specs.declared.Refusal.TheVariants.{Size, Room}
+use Rattle.answers.specs.Answer.{Answer, Done}
 use Rattle.answers.specs.Table.{CodeIn}
 use Rattle.answers.specs.Lent.{and_then, room_for}
 use Rattle.answers.proofs.Done.{is_done_lem, and_then_lem, if_holds}
@@ -18,11 +19,11 @@ use Rattle.frame.specs.Tests.{Served, size_test}
 use Rattle.frame.specs.Told.{RoomTold}
 use Rattle.frame.proofs.Tests.{size_served, size_is, size_tested}
 
-module _ (P : Answer → Type 0) (done : P Done) (W : ℕ) (size : (Served W → ⊥) → P (Size W)) where
+module _ (P : Answer → Type 0) (done : P Done) (W : ℕ) (size : (Served W → ⊥) → P (Err (Size W))) where
   pub size_holds : P (size_test W)
-  size_holds = ⊎_elim (λ e. rw e done) (λ e. rw e (size (λ s. let z : ◌≡◌ {A = ℕ} 0 1 = cc (size_served W s.0 s.1, e) in omega arith))) (size_tested W)
+  size_holds = ⊎_elim (λ e. rw e done) (λ e. rw e (size (λ s. cc (size_served W s.0 s.1, e)))) (size_tested W)
 
-  module _ (needed : ℕ) (room : List ℕ) (short : length room < needed → P (Room needed)) where
+  module _ (needed : ℕ) (room : List ℕ) (short : length room < needed → P (Err (Room needed))) where
     room_holds : P (room_for needed room)
     room_holds = if_holds (ltb (length room) needed) (Room needed) P (λ e. short (ltb-true _ _ e)) done
 

@@ -1,6 +1,6 @@
 -- What the codes 1 and 2 tell (scope, "Numbers that come back"). Assumes nothing.
 use Rattle.std.specs.Prelude.{ℕ, ◌<◌, ◌≡◌, List, length}
-use Rattle.answers.specs.declared.Answer.{Answer}
+use Rattle.answers.specs.Answer.{Answer}
 use Rattle.answers.specs.Table.{code_of, number_of}
 use Rattle.frame.specs.Tests.{Served}
 

@@ -4,8 +4,10 @@ use mathlib.Core.Path.{◌≡◌}
 use mathlib.Core.List.{List}
 use native.Mathlib.Omega.{arith}
 use lib.Dec.{eqb}
-use Rattle.answers.specs.declared.Answer.{Answer}
-use Rattle.answers.specs.declared.Answer.TheVariants.{Overfull}
+use Rattle.std.specs.Prelude.{Result, Ok, Err}
+use Rattle.answers.specs.declared.Refusal.{Refusal}
+use Rattle.answers.specs.declared.Refusal.TheVariants.{Overfull}
+use Rattle.answers.specs.Answer.{answer_of}
 use Rattle.answers.specs.Table.{number_of}
 use Rattle.answers.proofs.Done.{unless_holds}
 use Rattle.wiring.specs.Frame.{four}
@@ -24,7 +26,7 @@ use Rattle.changes.specs.Technician.{call_answer}
 use Rattle.changes.proofs.Answers.{add_holds, drop_holds}
 
 -- the answer's number fits
-abbrev pub Fits32 : Answer → Type 0
+abbrev pub Fits32 : {A : Type 0} → Result A Refusal → Type 0
 Fits32 a = number_of a < 4294967296
 
 -- the sum of 1, 2, 4, 8 is at most 15
@@ -54,6 +56,11 @@ add_fits W m c h k = add_holds Fits32 W m (small W m h) c (omega arith) (omega a
 pub drop-fits : (W : ℕ) (m : List ℕ) (k : ℕ) → W < 65536 → k < 65536 → Fits32 (call_answer W m (dropping k))
 drop-fits W m k h l = drop_holds Fits32 W m (small W m h) k (omega arith)
 
+-- the number of an answer with what it gave is that without
+pub answer_fits : {A : Type 0} (a : Result A Refusal) → Fits32 (answer_of a) → Fits32 a
+answer_fits (Ok x) h = h
+answer_fits (Err r) h = h
+
 -- the other calls' numbers fit 16 bits
-pub word_fits : (a b : Answer) → a ≡ b → number_of b < 65536 → Fits32 a
+pub word_fits : {A : Type 0} (a b : Result A Refusal) → a ≡ b → number_of b < 65536 → Fits32 a
 word_fits a b e h = rw e (omega arith)

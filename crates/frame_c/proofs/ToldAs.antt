@@ -1,9 +1,10 @@
--- What an entry tells is what the call below it answered. Assumes nothing.
+-- What an entry tells is what the call below it answered, with or without what it gave. Assumes nothing.
 use Prim.Native.Nat.{ℕ}
-use mathlib.Core.Path.{◌≡◌, ap, ◌∙◌}
-use Rattle.answers.specs.declared.Answer.{Answer}
-use Rattle.answers.specs.Table.{code_of, number_of}
+use Rattle.std.specs.Prelude.{Result, Ok, Err}
+use Rattle.answers.specs.declared.Refusal.{Refusal}
+use Rattle.answers.specs.Answer.{answer_of}
 use Rattle.frame_c.specs.Told.{Told}
 
-pub told_as : {answer meant : Answer} {code number : ℕ} → Told answer code number → answer ≡ meant → Told meant code number
-told_as t e = (t.0 ∙ ap code_of e, t.1 ∙ ap number_of e)
+pub told_answer : {A : Type 0} (a : Result A Refusal) {code number : ℕ} → Told a code number → Told (answer_of a) code number
+told_answer (Ok x) t = t
+told_answer (Err r) t = t

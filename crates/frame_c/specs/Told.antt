@@ -1,7 +1,7 @@
 -- How an answer is told in C: the code as the result, the number through a pointer. Assumes nothing.
-use Rattle.std.specs.Prelude.{ℕ, ◌≡◌}
-use Rattle.answers.specs.declared.Answer.{Answer}
+use Rattle.std.specs.Prelude.{ℕ, ◌≡◌, Result}
+use Rattle.answers.specs.declared.Refusal.{Refusal}
 use Rattle.answers.specs.Table.{code_of, number_of}
 
-abbrev pub Told : Answer → ℕ → ℕ → Type 0
+abbrev pub Told : {A : Type 0} → Result A Refusal → ℕ → ℕ → Type 0
 Told answer code number = (code ≡ code_of answer) × (number ≡ number_of answer)

@@ -1,6 +1,6 @@
 // What the library is, and how its frame is wired.
 ghost use Rattle.std.specs.Prelude.{◌≡◌, ◌<◌};
-ghost use Rattle.wires.specs.Wired.{wired_as};
+ghost use Rattle.wires.specs.Wired.{wired_as, wired_told};
 ghost use Rattle.frame_c.specs.Told.{Told};
 ghost use Rattle.frame_c.specs.About.{version, end_told};
 
@@ -33,15 +33,15 @@ pub extern "C" fn frame_relay_terminals(
     later: &mut [u16; 2],
     number: &mut u32,
 ) -> u32
-    ensures told { Told (wired_as size relay).answer result number.new }
-    ensures kind_after { kind.new ≡ (wired_as size relay).kind }
-    ensures earlier_after { earlier.new ≡ end_told (wired_as size relay).earlier }
-    ensures later_after { later.new ≡ end_told (wired_as size relay).later }
+    ensures told { Told (wired_as size relay) result number.new }
+    ensures kind_after { kind.new ≡ (wired_told (wired_as size relay)).kind }
+    ensures earlier_after { earlier.new ≡ end_told (wired_told (wired_as size relay)).earlier }
+    ensures later_after { later.new ≡ end_told (wired_told (wired_as size relay)).later }
 {
-    let wired = wires::wiring_of(size, relay);
-    let answer = wired.answer;
+    let read = wires::wiring_of(size, relay);
+    let wired = wires::wired_told(read);
     *kind = wired.kind as u16;
     *earlier = end_told(wired.earlier);
     *later = end_told(wired.later);
-    tell(answer, number)
+    tell(read, number)
 }

@@ -1,15 +1,15 @@
-// The readers and writers of job and pattern records.
+// The readers and writers of job and pattern records: an entry for each, since C has no generic ones.
 ghost use Rattle.std.specs.Prelude.{◌≡◌};
 ghost use Rattle.frame.specs.Leaves.{count_list};
-ghost use Rattle.jobs.specs.Read.{read_job};
+ghost use Rattle.jobs.specs.Read.{job_told, read_job};
 ghost use Rattle.jobs.specs.Write.{job_answer, job_room};
-ghost use Rattle.patterns.specs.Read.{read_pattern};
+ghost use Rattle.patterns.specs.Read.{pattern_told, read_pattern};
 ghost use Rattle.patterns.specs.Write.{pattern_answer, pattern_room};
 ghost use Rattle.frame_c.specs.Told.{Told};
 ghost use Rattle.frame_c.specs.Job.{job_of};
 
-use crate::telling::tell;
-use jobs::Job;
+use crate::telling::{counts_told, tell};
+use frame::Job;
 
 #[unsafe(no_mangle)]
 pub extern "C" fn frame_read_job(
@@ -18,17 +18,15 @@ pub extern "C" fn frame_read_job(
     counts: &mut [u16; 6],
     number: &mut u32,
 ) -> u32
-    ensures told { Told (read_job bytes.now).answer result number.new }
-    ensures size_after { size.new ≡ (read_job bytes.now).job.size }
-    ensures counts_after { counts.new ≡ count_list (read_job bytes.now).job.counts }
+    ensures told { Told (read_job bytes.now) result number.new }
+    ensures size_after { size.new ≡ (job_told (read_job bytes.now)).size }
+    ensures counts_after { counts.new ≡ count_list (job_told (read_job bytes.now)).counts }
 {
     let read = jobs::read_job(bytes);
-    let answer = read.answer;
-    let job = read.job;
-    let n = job.counts;
+    let job = jobs::job_told(read);
     *size = job.size;
-    *counts = [n.n1, n.n2, n.n3, n.n4, n.n5, n.n6];
-    tell(answer, number)
+    *counts = counts_told(job.counts);
+    tell(read, number)
 }
 
 #[unsafe(no_mangle)]
@@ -59,21 +57,20 @@ pub extern "C" fn frame_read_pattern(
     len: &mut usize,
     number: &mut u32,
 ) -> u32
-    ensures told { Told (read_pattern bytes.now).answer result number.new }
-    ensures size_after { size.new ≡ (read_pattern bytes.now).job.size }
-    ensures counts_after { counts.new ≡ count_list (read_pattern bytes.now).job.counts }
-    ensures start_after { start.new ≡ (read_pattern bytes.now).start }
-    ensures len_after { len.new ≡ (read_pattern bytes.now).len }
+    ensures told { Told (read_pattern bytes.now) result number.new }
+    ensures size_after { size.new ≡ (pattern_told (read_pattern bytes.now)).job.size }
+    ensures counts_after { counts.new ≡ count_list (pattern_told (read_pattern bytes.now)).job.counts }
+    ensures start_after { start.new ≡ (pattern_told (read_pattern bytes.now)).start }
+    ensures len_after { len.new ≡ (pattern_told (read_pattern bytes.now)).len }
 {
     let read = patterns::read_pattern(bytes);
-    let answer = read.answer;
-    let job = read.job;
-    let n = job.counts;
+    let pattern = patterns::pattern_told(read);
+    let job = pattern.job;
     *size = job.size;
-    *counts = [n.n1, n.n2, n.n3, n.n4, n.n5, n.n6];
-    *start = read.start;
-    *len = read.len;
-    tell(answer, number)
+    *counts = counts_told(job.counts);
+    *start = pattern.start;
+    *len = pattern.len;
+    tell(read, number)
 }
 
 #[unsafe(no_mangle)]

@@ -7,6 +7,7 @@ ghost use Rattle.map_check.specs.Check.{check_map};
 ghost use Rattle.frame_c.specs.Told.{Told};
 
 use crate::telling::tell;
+use frame::Job;
 
 #[unsafe(no_mangle)]
 pub extern "C" fn frame_route(
@@ -25,8 +26,8 @@ pub extern "C" fn frame_route(
     ensures sums_after { sums.new ≡ sum_list (routed size (counts n1 n2 n3 n4 n5 n6) room.old).sums }
     ensures room_after { room.new ≡ route_room size (counts n1 n2 n3 n4 n5 n6) room.old }
 {
-    let job = frame::six(n1, n2, n3, n4, n5, n6);
-    let told = router::route(size, job, room);
+    let counts = frame::six(n1, n2, n3, n4, n5, n6);
+    let told = router::route(Job { size, counts }, room);
     let answer = told.answer;
     let asked = told.sums;
     *sums = [asked.left, asked.top, asked.right, asked.bottom];
@@ -47,6 +48,6 @@ pub extern "C" fn frame_check_map(
 ) -> u32
     ensures { Told (check_map size (count_list (counts n1 n2 n3 n4 n5 n6)) map.now) result number.new }
 {
-    let job = frame::six(n1, n2, n3, n4, n5, n6);
-    tell(map_check::check_map(size, job, map), number)
+    let counts = frame::six(n1, n2, n3, n4, n5, n6);
+    tell(map_check::check_map(Job { size, counts }, map), number)
 }

@@ -7,17 +7,6 @@ ghost use Rattle.frame_c.specs.Told.{Told};
 ghost use Rattle.frame_c.specs.Relay.{relay_told};
 
 use crate::telling::tell;
-use changes::Added;
-
-// The relay that was closed; 65535, which no frame has, where none was.
-fn relay_told(added: Added) -> u16
-    ensures { result ≡ relay_told added }
-{
-    match added {
-        Added::Closed(relay) => relay,
-        Added::Refused(_) => 65535,
-    }
-}
 
 #[unsafe(no_mangle)]
 pub extern "C" fn frame_open_all(size: u16, room: &mut [u8], number: &mut u32) -> u32
@@ -47,8 +36,9 @@ pub extern "C" fn frame_add_net(
     ensures map_after { map.new ≡ call_map size map.old (adding kind) }
 {
     let added = changes::add_net(size, map, kind);
-    *relay = relay_told(added);
-    tell(changes::added_answer(added), number)
+    // beside a refusal 65535, which no frame has
+    *relay = added.unwrap_or(65535);
+    tell(added, number)
 }
 
 #[unsafe(no_mangle)]

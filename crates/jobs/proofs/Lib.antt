@@ -1,4 +1,3 @@
-pub mod Ways
 pub mod Grounds
 pub mod Heads
 pub mod RoundTrip

@@ -2,17 +2,20 @@
 -- job; and what each code and its number tell. Assumes nothing.
 use Prim.Native.Nat.{ℕ, ◌≤◌, ◌<◌}
 use mathlib.Core.Path.{◌≡◌, refl, sym, ap, ◌∙◌}
-use mathlib.Core.Logic.{◌⊎◌, inl, inr, ⊎_elim}
 use mathlib.Core.List.{List, [], ◌∷◌}
 use native.Mathlib.Omega.{arith}
 use lib.ListN.{length, take}
 use lib.Seq.{take_all}
 use lib.Dec.{ltb}
-use borrow.Author.Tests.{ltb-true, ltb-false}
+use borrow.Author.Tests.{ltb-true, ltb-false, lt-ltb}
+use Rattle.std.specs.Prelude.{Result, Ok, Err}
+use Rattle.std.specs.Result.{IfOk}
+use Rattle.std.proofs.lemmas.Result.{IfOk-at_ok}
 use Rattle.counting.specs.Lists.{among, Bytes}
-use Rattle.answers.specs.declared.Answer.{Answer}
-use Rattle.answers.specs.declared.Answer.TheVariants.{Done}
-use Rattle.answers.specs.Table.{code_of, number_of, CodeIn}
+use Rattle.answers.specs.declared.Refusal.{Refusal}
+use Rattle.answers.specs.declared.Refusal.TheVariants.{After}
+use Rattle.answers.specs.Answer.{Done}
+use Rattle.answers.specs.Table.{number_of, CodeIn}
 use Rattle.answers.specs.Lent.{over}
 use Rattle.answers.proofs.Done.{is_done_lem}
 use Rattle.answers.proofs.Lent.{asked_done, done-fits}
@@ -20,19 +23,14 @@ use Rattle.frame.specs.Tests.{Served, size_test}
 use Rattle.frame.specs.Told.{RoomTold}
 use Rattle.frame.proofs.Tests.{size_served, size_is}
 use Rattle.frame.proofs.Grounds.{asked_holds, asked_codes, asked_told}
-use Rattle.fields.proofs.Fields.{either}
-use Rattle.jobs.specs.declared.Job.{Job}
-use Rattle.jobs.specs.declared.JobRead.{JobRead}
+use Rattle.fields.proofs.Fields.{either, if_goes_on}
+use Rattle.frame.specs.declared.Job.{Job}
 use Rattle.jobs.specs.Format.{job_record}
-use Rattle.jobs.specs.Read.{read_head, no_job, read_job}
+use Rattle.jobs.specs.Read.{read_head, read_job, empty_job, job_told}
 use Rattle.jobs.specs.Write.{job_answer, job_room}
 use Rattle.jobs.specs.Told.{WholeJob, ReadTold}
-use Rattle.jobs.proofs.Grounds.{ReadRefusals, none_done, in_codes, numbers_small, other-code, numbers_told}
-use Rattle.jobs.proofs.Heads.{head_back, if_begun, head_way}
-
--- a read that gives a job
-abbrev pub gives_job : Job → JobRead
-gives_job j = record { answer = Done; job = j }
+use Rattle.jobs.proofs.Grounds.{ReadRefusals, in_codes, numbers_small, other-code, numbers_told}
+use Rattle.jobs.proofs.Heads.{head_back, head_way}
 
 pub job-length : (j : Job) → length (job_record j) ≡ 19
 job-length j = refl
@@ -43,16 +41,21 @@ pub job_is_written : (j : Job) (room : List ℕ) → Served j.size → length (j
 unfolding job_answer
 job_is_written j room s fits = asked_done (size_test j.size) (length (job_record j)) (job_record j) room (sym (size_served j.size s.0 s.1)) fits
 
-pub job_reads_back : (j : Job) → Served j.size → read_job (job_record j) ≡ gives_job j
+pub job_reads_back : (j : Job) → Served j.size → read_job (job_record j) ≡ Ok j
 unfolding read_job
 job_reads_back j s = rw (head_back j [] s)
 
 -- what a writer that said done left in the room reads back
-pub written_job_reads_back : (j : Job) (room : List ℕ) → job_answer j room ≡ Done → read_job (take (length (job_record j)) (job_room j room)) ≡ gives_job j
+pub written_job_reads_back : (j : Job) (room : List ℕ) → job_answer j room ≡ Done → read_job (take (length (job_record j)) (job_room j room)) ≡ Ok j
 unfolding job_answer job_room
 written_job_reads_back j room e =
     let d = done-fits (size_test j.size) (length (job_record j)) (job_record j) room e in
     rw e (job_reads_back j (size_is j.size (is_done_lem _ d.0)))
+
+-- bytes after the last field are refused, with the place of the first
+pub bytes_after : (s : List ℕ) {j : Job} {next : ℕ} → read_head s ≡ Ok (j, next) → next < length s → Err (After next) ≡ read_job s
+unfolding read_job
+bytes_after s {next = next} e h = rw e (simp (lt-ltb next (length s) h))
 
 -- ---- reading, then writing
 
@@ -61,54 +64,47 @@ pub record AcceptedJob (s : List ℕ) (j : Job) : Type 0 where
   pub served : Served j.size
   pub same : job_record j ≡ s
 
--- either way the reader has gone: a job, or no job
-abbrev JobWay : List ℕ → (Answer → Type 0) → JobRead → Type 0
-JobWay s P x = ((x.answer ≡ Done) × (Bytes s → AcceptedJob s x.job)) ⊎ ((x ≡ no_job x.answer) × P x.answer)
-
-module _ (s : List ℕ) (P : Answer → Type 0) (r : ReadRefusals P s WholeJob) where
-  job_way : JobWay s P (read_job s)
-  unfolding read_job
-  job_way =
-      if_begun (JobWay s P) (read_head s) (λ j next e.
-      let h = rw e at (head_way s P WholeJob r) in
-      either (JobWay s P) (ltb next (length s)) (λ t. inr (refl, r.after next (ltb-true _ _ t) (omega (arith, h)) (λ b. (j, h.whole b))))
-      (λ t. inl (refl, λ b. record { served = h.served; same = sym (h.whole b) ∙ take_all next s (ltb-false _ _ t) })))
-      (λ a e. inr (refl, rw e at (head_way s P WholeJob r)))
-
-  job_holds : P Done → P (read_job s).answer
-  job_holds d = ⊎_elim (λ a. rw a.0 d) (λ x. x.1) job_way
-
 module _ (s : List ℕ) where
-  way : JobWay s (λ a. 1 ≤ code_of a) (read_job s)
-  way = job_way s (λ a. 1 ≤ code_of a) (none_done s WholeJob)
+  -- what holds of a job that was accepted, and of each refusal on its ground, holds of what the reader gives
+  job_holds : (P : Result Job Refusal → Type 0) → ((j : Job) → (Bytes s → AcceptedJob s j) → P (Ok j)) → ReadRefusals (λ r. P (Err r)) s WholeJob → P (read_job s)
+  unfolding read_job
+  job_holds P p r =
+      if_goes_on P (read_head s) (λ begun e.
+      let h = rw e at (head_way s (λ x. P (Err x)) WholeJob r) in
+      let next = begun.1 in
+      either P (ltb next (length s)) (λ t. r.after next (ltb-true _ _ t) (omega (arith, h)) (λ b. (begun.0, h.whole b)))
+      (λ t. p begun.0 (λ b. record { served = h.served; same = sym (h.whole b) ∙ take_all next s (ltb-false _ _ t) })))
+      (λ x e. rw e at (head_way s (λ x. P (Err x)) WholeJob r))
 
-  pub job_rewritten : Bytes s → (read_job s).answer ≡ Done → AcceptedJob s (read_job s).job
-  job_rewritten bytes e = ⊎_elim (λ a. a.1 bytes) (λ r. absurd (omega (arith, r.1, ap code_of e))) way
+  pub job_rewritten : Bytes s → {j : Job} → read_job s ≡ Ok j → AcceptedJob s j
+  job_rewritten bytes {j} e =
+      IfOk-at_ok (AcceptedJob s) e
+      (job_holds (λ x. IfOk x (AcceptedJob s)) (λ k a. a bytes) (record { size = λ v f n. tt; fault = λ at r f h l b. tt; after = λ at h l b. tt }))
 
   -- the writer does not refuse what the reader accepted, and the same bytes come out
-  pub job_written_again : Bytes s → (read_job s).answer ≡ Done → (room : List ℕ) → length s ≤ length room
-      → (job_answer (read_job s).job room ≡ Done) × (job_room (read_job s).job room ≡ over s room)
+  pub job_written_again : Bytes s → {j : Job} → read_job s ≡ Ok j → (room : List ℕ) → length s ≤ length room
+      → (job_answer j room ≡ Done) × (job_room j room ≡ over s room)
   unfolding job_room
-  job_written_again bytes e room fits =
+  job_written_again bytes {j} e room fits =
       let a = job_rewritten bytes e in
-      let d = job_is_written (read_job s).job room a.served (omega (arith, ap length a.same)) in
+      let d = job_is_written j room a.served (omega (arith, ap length a.same)) in
       (d, rw d (ap (λ (l : List ℕ). over l room) a.same))
 
   -- size 0 and six counts of 0
-  pub refused-job : ((read_job s).answer ≡ Done → ⊥) → read_job s ≡ no_job (read_job s).answer
-  refused-job n = ⊎_elim (λ a. absurd (n a.0)) (λ r. r.0) way
+  pub refused-job : {r : Refusal} → read_job s ≡ Err r → job_told (read_job s) ≡ empty_job
+  refused-job e = rw e
 
   -- ---- what the codes and numbers tell
 
-  pub job-codes : CodeIn (0 ∷ 1 ∷ 7 ∷ 8 ∷ 9 ∷ 10 ∷ []) (read_job s).answer
+  pub job-codes : CodeIn (0 ∷ 1 ∷ 7 ∷ 8 ∷ 9 ∷ 10 ∷ []) (read_job s)
   unfolding among
-  job-codes = job_holds s _ (in_codes s WholeJob []) refl
+  job-codes = job_holds (CodeIn (0 ∷ 1 ∷ 7 ∷ 8 ∷ 9 ∷ 10 ∷ [])) (λ j a. refl) (in_codes s WholeJob [])
 
-  pub job-number : Bytes s → number_of (read_job s).answer < 65536
-  job-number bytes = job_holds s _ (numbers_small s WholeJob bytes) (omega arith)
+  pub job-number : Bytes s → number_of (read_job s) < 65536
+  job-number bytes = job_holds (λ x. number_of x < 65536) (λ j a. omega arith) (numbers_small s WholeJob bytes)
 
-  pub job-told : Bytes s → ReadTold s WholeJob (read_job s).answer
-  job-told bytes = job_holds s _ (numbers_told s WholeJob bytes) (other-code s WholeJob Done (λ x. omega arith) (λ l m. omega arith))
+  pub job-told : Bytes s → ReadTold s WholeJob (read_job s)
+  job-told bytes = job_holds (ReadTold s WholeJob) (λ j a. other-code s WholeJob (Ok j) (λ x. omega arith) (λ l m. omega arith)) (numbers_told s WholeJob bytes)
 
 module _ (j : Job) (room : List ℕ) where
   pub written_job_codes : CodeIn (0 ∷ 1 ∷ 2 ∷ []) (job_answer j room)

@@ -3,7 +3,7 @@ use Rattle.std.specs.Prelude.{ℕ, ◌≡◌, ◌⊎◌, List, [], ◌∷◌, �
 use Rattle.frame.specs.declared.Counts.{Counts}
 use Rattle.frame.specs.Leaves.{count_list}
 use Rattle.fields.specs.Format.{words_of, field}
-use Rattle.jobs.specs.declared.Job.{Job}
+use Rattle.frame.specs.declared.Job.{Job}
 
 -- tag 01, length 1: the size
 abbrev pub size_field : ℕ → List ℕ

@@ -1,9 +1,9 @@
 -- What writing a job record answers, and what the room holds afterwards. Assumes nothing.
 use Rattle.std.specs.Prelude.{List, ℕ, length}
-use Rattle.answers.specs.declared.Answer.{Answer}
+use Rattle.answers.specs.Answer.{Answer}
 use Rattle.answers.specs.Lent.{and_then, room_for, lent_after}
 use Rattle.frame.specs.Tests.{size_test}
-use Rattle.jobs.specs.declared.Job.{Job}
+use Rattle.frame.specs.declared.Job.{Job}
 use Rattle.jobs.specs.Format.{job_record}
 
 -- the size, then the room; nothing else is refused

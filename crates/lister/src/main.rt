@@ -1,58 +1,40 @@
 // The bench lister: reads a job record from standard input and writes its listing to standard output.
 #![tactic(auto)]
 
-ghost use Rattle.std.specs.Prelude.{◌≤◌, length};
-ghost use Rattle.lister.specs.Input.{came};
+ghost use Rattle.std.specs.Prelude.{◌≤◌, length, IfOk};
 
+use std::io;
 use std::io::Read;
 
-// How many bytes came; or a read failed.
-#[derive(Drop)]
-enum Input {
-    Bytes(usize),
-    Failed,
-}
-
-// Reads once.
-fn read_once(input: &mut impl Read, room: &mut [u8]) -> Input
-    ensures { came result ≤ length room.new }
-{
-    match input.read(room) {
-        Ok(n) => Input::Bytes(n),
-        Err(_) => Input::Failed,
-    }
-}
-
 // Reads until the room is full or the input ends: a short read is gone on with.
-fn read_input(input: &mut impl Read, room: &mut [u8]) -> Input
-    ensures { came result ≤ length room.new }
+fn read_input(input: &mut impl Read, room: &mut [u8]) -> io::Result<usize>
+    ensures { IfOk result (λ n. n ≤ length room.new) }
 {
     let mut n = 0;
+    // Not a `for`: how far each turn goes depends on what the read gives.
     while n < room.len() {
-        let Input::Bytes(more) = read_once(input, &mut room[n..]) else {
-            return Input::Failed;
-        };
+        let more = input.read(&mut room[n..])?;
         if more == 0 {
-            return Input::Bytes(n);
+            break;
         }
         n += more;
     }
-    Input::Bytes(n)
+    Ok(n)
 }
 
 // A room that is long enough for every text.
 const ROOM: usize = 4096;
 
-// One byte more than a job record has is enough to tell.
+// One byte more than a job record has is enough to tell. Both rooms are arrays: the program takes no heap.
 fn main(rt: HostRuntime) {
     let mut input = [0u8; 20];
-    let Input::Bytes(n) = read_input(&mut rt.stdin(), &mut input) else {
+    let Ok(n) = read_input(&mut rt.stdin(), &mut input) else {
         let _ = eprintln!(rt; "lister: cannot read standard input");
         return;
     };
     let mut text = [0u8; ROOM];
-    let listed = listing::list(&input[..n], &mut text);
-    let written = rt.write_all(&text[..listed.len]);
+    let listed = listing::list(&input[..n], &mut text).unwrap();
+    let written = rt.write_all(&text[..listed]);
     if written.is_err() {
         let _ = eprintln!(rt; "lister: cannot write standard output");
     }

@@ -1,13 +1,16 @@
 -- The number in the first line: it is the number of closed relays, of lines that follow, and of the job's nets. Assumes nothing.
-use Prim.Native.Nat.{ℕ, zero, suc, ◌+◌, ◌-◌, ◌<◌}
+use Prim.Native.Nat.{ℕ, zero, suc, ◌+◌, ◌-◌}
 use mathlib.Core.Path.{◌≡◌, refl, sym, ◌∙◌}
 use mathlib.Core.Bool.{Bool, true, false, cond, ◌&&◌, and-true}
 use mathlib.Core.List.{List, [], ◌∷◌, ◌++◌}
 use native.Mathlib.Omega.{arith}
 use lib.Dec.{eqb}
-use lib.ListN.{length, get_or, replicate}
+use lib.ListN.{get_or, replicate}
 use borrow.Author.Tests.{ne_eqb}
+use Rattle.std.specs.Prelude.{decimal, All}
+use Rattle.std.proofs.lemmas.List.Elements.{All-head, All-tail}
 use Rattle.answers.specs.Lent.{is_done}
+use Rattle.answers.proofs.Done.{done_is}
 use Rattle.counting.specs.Count.{one, count, sum_to}
 use Rattle.wiring.specs.Frame.{frame}
 use Rattle.wiring.specs.Map.{closed_in}
@@ -16,13 +19,12 @@ use Rattle.wiring.proofs.Frame.{frame_proper}
 use Rattle.wiring.proofs.Pigeon.{carried_sum}
 use Rattle.frame.specs.declared.Counts.{Counts}
 use Rattle.frame.specs.Leaves.{count_list}
-use Rattle.jobs.specs.declared.Job.{Job}
+use Rattle.frame.specs.declared.Job.{Job}
 use Rattle.router.specs.Route.{map_for}
 use Rattle.router.specs.Router.{route_answer, routed}
 use Rattle.router.proofs.Maps.{map_carries}
 use Rattle.router.proofs.Answering.{route_done}
-use Rattle.text.specs.Decimal.{decimal}
-use Rattle.text.proofs.Decimal.{decimal_digits}
+use Rattle.text.proofs.Decimal.{IsDigit, decimal_digits}
 use Rattle.listing.specs.Lines.{lf, total, letter, terminal_text, net_line, net_lines, size_line, map_text}
 use Rattle.listing.specs.Listing.{job_text}
 
@@ -36,13 +38,15 @@ unfolding line_ends
 ends_append [] ys = omega arith
 ends_append (x ∷ xs) ys = omega (arith, ends_append xs ys)
 
-ends_none : (xs : List ℕ) → ((i : ℕ) → i < length xs → get_or xs i 0 ≡ lf → ⊥) → line_ends xs ≡ 0
+ends_digits : (xs : List ℕ) → All IsDigit xs → line_ends xs ≡ 0
 unfolding line_ends
-ends_none [] h = refl
-ends_none (x ∷ xs) h = rw (ne_eqb x lf (h 0 (omega arith))) (omega (arith, ends_none xs (λ i l. h (suc i) (omega arith))))
+ends_digits [] h = refl
+ends_digits (x ∷ xs) h =
+    let d = All-head IsDigit x xs h in
+    rw (ne_eqb x lf (λ e. omega arith)) (omega (arith, ends_digits xs (All-tail IsDigit x xs h)))
 
 ends_decimal : (n : ℕ) → line_ends (decimal n) ≡ 0
-ends_decimal n = ends_none (decimal n) (λ i l e. omega (arith, decimal_digits n i l))
+ends_decimal n = ends_digits (decimal n) (decimal_digits n)
 
 not_end : (s : ℕ) → eqb (letter s) lf ≡ false
 not_end s = go (s - 1)
@@ -90,4 +94,4 @@ pub nets-listed : (j : Job) → is_done (route_answer j.size j.counts (replicate
 unfolding job_text map_text routed
 nets-listed j e =
     let n = nets-routed j.size j.counts (replicate 48 0) e in
-    record { text = rw (e, n); lines = ends_nets _ _ _ ∙ n }
+    record { text = rw (done_is _ e, n); lines = ends_nets _ _ _ ∙ n }

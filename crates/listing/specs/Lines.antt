@@ -1,7 +1,7 @@
 -- The lines of the bench lister (scope, "The bench lister"), in ASCII, each ended by one LF. Assumes nothing.
-use Rattle.std.specs.Prelude.{ℕ, zero, suc, ◌+◌, ◌-◌, cond, List, [], ◌∷◌, ◌++◌, eqb, get_or}
-use Rattle.answers.specs.declared.Answer.{Answer}
-use Rattle.answers.specs.Table.{code_of, number_of}
+use Rattle.std.specs.Prelude.{ℕ, zero, suc, ◌+◌, ◌-◌, cond, List, [], ◌∷◌, ◌++◌, eqb, get_or, decimal, Result, Ok, Err}
+use Rattle.answers.specs.declared.Refusal.{Refusal}
+use Rattle.answers.specs.Table.{refusal_code, refusal_number}
 use Rattle.counting.specs.Count.{count}
 use Rattle.wiring.specs.Wiring.{from_side, to_side}
 use Rattle.wiring.specs.Frame.{type_in, frame}
@@ -9,7 +9,6 @@ use Rattle.wiring.specs.Map.{closed_in}
 use Rattle.frame.specs.declared.Counts.{Counts}
 use Rattle.overfull.specs.declared.Sums.{Sums}
 use Rattle.overfull.specs.Overfull.{sum_list}
-use Rattle.text.specs.Decimal.{decimal}
 
 abbrev pub space : ℕ
 space = 32
@@ -70,5 +69,10 @@ abbrev pub sums_after : ℕ → Sums → List ℕ
 sums_after code sums = cond (eqb code 3) (sum_list sums) []
 
 -- a refusal: code and number, and where the code is 3 the sums
-unfoldable pub refused_text : Answer → Sums → List ℕ
-refused_text a sums = refused_word ++ (spaced (code_of a ∷ number_of a ∷ sums_after (code_of a) sums) ++ (lf ∷ []))
+unfoldable pub refused_text : Refusal → Sums → List ℕ
+refused_text r sums = refused_word ++ (spaced (refusal_code r ∷ refusal_number r ∷ sums_after (refusal_code r) sums) ++ (lf ∷ []))
+
+-- the text of what is given, or of the refusal in its place
+abbrev pub printed : {A : Type 0} → Result A Refusal → Sums → (A → List ℕ) → List ℕ
+printed (Ok x) sums text = text x
+printed (Err r) sums text = refused_text r sums

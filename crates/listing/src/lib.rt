@@ -1,206 +1,160 @@
 // The bench lister's text for a job record, made in a lent room.
 #![tactic(auto)]
 
-ghost use Rattle.std.specs.Prelude.{◌≡◌, ◌∷◌, ◌+◌, ◌*◌, ◌≤◌, ◌<◌, length};
-ghost use Rattle.counting.specs.Count.{count};
+ghost use Rattle.std.specs.Prelude.{◌≡◌, ◌∷◌, ◌*◌, ◌≤◌, ◌<◌, length, decimal};
 ghost use Rattle.wiring.specs.Frame.{frame};
-ghost use Rattle.wiring.specs.Map.{closed_in};
-ghost use Rattle.text.specs.Decimal.{decimal};
-ghost use Rattle.text.specs.Wrote.{Wrote};
-ghost use Rattle.listing.specs.Lines.{space, letter, terminal_text, net_line, net_lines, size_line, map_text};
+ghost use Rattle.answers.specs.Table.{refusal_code};
+ghost use Rattle.text.specs.Wrote.{Fits, Wrote};
+ghost use Rattle.listing.specs.Lines.{space, terminal_text, net_line, net_lines, size_line, map_text};
 ghost use Rattle.listing.specs.Lines.{spaced, sums_after, refused_text};
 ghost use Rattle.listing.specs.Listing.{job_text, text_of, listed, listed_room};
 
-use answers::Answer;
-use frame::{Sorted, Terminal, Terminals};
-use jobs::Job;
+use answers::{Answer, Refusal};
+use frame::{Job, Terminal};
 use overfull::Sums;
+use text::Text;
 
-// How the text was made: done with its length, or a room that is too short and no text.
-#[derive(Clone, Copy)]
-pub struct Listed {
-    pub answer: Answer,
-    pub len: usize,
-}
-
-// A side's letter, L, T, R or B.
-fn side_letter(side: usize) -> u8
-    requires { 1 ≤ side }
-    ensures { result ≡ letter side }
-{
-    match side {
-        1 => b'L',
-        2 => b'T',
-        3 => b'R',
-        4 => b'B',
-        _ => 0,
-    }
-}
+// Each of these asks that its own text fits: the room is tested once, in `list`.
 
 // A space, then side and position, as L1.
-fn put_terminal(room: &mut [u8], at: usize, t: Terminal) -> usize
-    requires side_there { 1 ≤ t.side }
-    requires text_fits { at + length (space ∷ terminal_text t.side t.position) ≤ length room.old }
-    ensures { Wrote room.old at (space ∷ terminal_text t.side t.position) room.new result }
+#[tactic(auto, using(text::proofs::Stores::wrote_append), unfolding(crate::specs::Lines::terminal_text))]
+fn put_terminal(text: &mut Text, t: Terminal)
+    requires side_there { (1 ≤ t.side) × (t.side ≤ 4) }
+    requires text_fits { Fits text.old (space ∷ terminal_text t.side t.position) }
+    ensures { Wrote text.old (space ∷ terminal_text t.side t.position) text.new }
 {
-    let next = text::put_byte(room, at, b' ');
-    let next = text::put_byte(room, next, side_letter(t.side));
-    text::put_decimal(room, next, t.position as u64)
+    text.put_byte(b' ');
+    text.put_byte(b"LTRB"[t.side - 1]);
+    text.put_decimal(t.position as u64);
 }
 
-// A closed relay's line: type, terminal on the earlier side, terminal on the later side.
-fn put_net(room: &mut [u8], at: usize, size: usize, relay: usize) -> usize
+// A closed relay's line: type, terminal on the earlier side, terminal on the later side. The relay is a number from `put_nets`' range.
+#[tactic(auto, unfolding(crate::specs::Lines::net_line, frame::specs::Leaves::sorted, frame::specs::Leaves::terminals_of))]
+fn put_net(text: &mut Text, size: usize, relay: usize)
     requires relay_there { relay < 6 * size }
-    requires line_fits { at + length (net_line size relay) ≤ length room.old }
-    ensures { Wrote room.old at (net_line size relay) room.new result }
+    requires line_fits { Fits text.old (net_line size relay) }
+    ensures { Wrote text.old (net_line size relay) text.new }
 {
-    let Sorted::Relay(kind, _) = frame::sort_relay(size, relay) else {
-        return at;
-    };
-    let Terminals::Joined(earlier, later) = frame::relay_terminals(size, relay) else {
-        return at;
-    };
-    let next = text::put_decimal(room, at, kind as u64);
-    let next = put_terminal(room, next, earlier);
-    let next = put_terminal(room, next, later);
-    text::put_byte(room, next, b'\n')
+    let (kind, _) = frame::sort_relay(size, relay).unwrap();
+    let (earlier, later) = frame::relay_terminals(size, relay).unwrap();
+    text.put_decimal(kind as u64);
+    put_terminal(text, earlier);
+    put_terminal(text, later);
+    text.put_byte(b'\n');
 }
 
 // A line for each closed relay, by rising number.
-fn put_nets(room: &mut [u8], at: usize, size: u16, map: &[u8]) -> usize
-    requires { at + length (net_lines size map.now (frame size).relays) ≤ length room.old }
-    ensures { Wrote room.old at (net_lines size map.now (frame size).relays) room.new result }
+fn put_nets(text: &mut Text, size: u16, map: &[u8])
+    requires { Fits text.old (net_lines size map.now (frame size).relays) }
+    ensures { Wrote text.old (net_lines size map.now (frame size).relays) text.new }
 {
-    let relays = 6 * (size as usize);
-    let mut next = at;
-    let mut relay = 0;
-    while relay < relays {
+    let size = size as usize;
+    for relay in 0..6 * size {
         if maps::is_closed(map, relay) {
-            next = put_net(room, next, size as usize, relay);
+            put_net(text, size, relay);
         }
-        relay += 1;
     }
-    next
-}
-
-// The number of closed relays.
-fn count_closed(map: &[u8], size: u16) -> u64
-    ensures { result ≡ count (frame size).relays (closed_in map.now) }
-{
-    let relays = 6 * (size as usize);
-    let mut nets = 0;
-    let mut relay = 0;
-    while relay < relays {
-        if maps::is_closed(map, relay) {
-            nets += 1;
-        }
-        relay += 1;
-    }
-    nets
 }
 
 // The first line: the size and the number of closed relays.
-fn put_size_line(room: &mut [u8], at: usize, size: u16, nets: u64) -> usize
-    requires { at + length (size_line size nets) ≤ length room.old }
-    ensures { Wrote room.old at (size_line size nets) room.new result }
+#[tactic(auto, unfolding(crate::specs::Lines::size_line))]
+fn put_size_line(text: &mut Text, size: u16, nets: usize)
+    requires { Fits text.old (size_line size nets) }
+    ensures { Wrote text.old (size_line size nets) text.new }
 {
-    let next = text::put_bytes(room, at, b"SIZE ");
-    let next = text::put_decimal(room, next, size as u64);
-    let next = text::put_bytes(room, next, b" NETS ");
-    let next = text::put_decimal(room, next, nets);
-    text::put_byte(room, next, b'\n')
+    text.put_bytes(b"SIZE ");
+    text.put_decimal(size as u64);
+    text.put_bytes(b" NETS ");
+    text.put_decimal(nets as u64);
+    text.put_byte(b'\n');
 }
 
 // What is printed of a map.
-fn put_map(room: &mut [u8], at: usize, size: u16, map: &[u8]) -> usize
-    requires { at + length (map_text size map.now) ≤ length room.old }
-    ensures { Wrote room.old at (map_text size map.now) room.new result }
+#[tactic(auto, unfolding(crate::specs::Lines::map_text))]
+fn put_map(text: &mut Text, size: u16, map: &[u8])
+    requires { Fits text.old (map_text size map.now) }
+    ensures { Wrote text.old (map_text size map.now) text.new }
 {
-    let next = put_size_line(room, at, size, count_closed(map, size));
-    put_nets(room, next, size, map)
+    put_size_line(text, size, maps::count_closed(map, 0, 6 * (size as usize)));
+    put_nets(text, size, map);
 }
 
 // A space and a number.
-fn put_number(room: &mut [u8], at: usize, n: u64) -> usize
-    requires { at + length (space ∷ decimal n) ≤ length room.old }
-    ensures { Wrote room.old at (space ∷ decimal n) room.new result }
+fn put_number(text: &mut Text, n: u64)
+    requires { Fits text.old (space ∷ decimal n) }
+    ensures { Wrote text.old (space ∷ decimal n) text.new }
 {
-    let next = text::put_byte(room, at, b' ');
-    text::put_decimal(room, next, n)
+    text.put_byte(b' ');
+    text.put_decimal(n);
 }
 
 // The four sums where the code is 3, else nothing.
-fn put_sums(room: &mut [u8], at: usize, code: u32, sums: Sums) -> usize
-    requires { at + length (spaced (sums_after code sums)) ≤ length room.old }
-    ensures { Wrote room.old at (spaced (sums_after code sums)) room.new result }
+#[tactic(auto, unfolding(crate::specs::Lines::spaced))]
+fn put_sums(text: &mut Text, refusal: Refusal, sums: Sums)
+    requires { Fits text.old (spaced (sums_after (refusal_code refusal) sums)) }
+    ensures { Wrote text.old (spaced (sums_after (refusal_code refusal) sums)) text.new }
 {
-    if code != 3 {
-        return at;
+    if let Refusal::Overfull(_) = refusal {
+        put_number(text, sums.left as u64);
+        put_number(text, sums.top as u64);
+        put_number(text, sums.right as u64);
+        put_number(text, sums.bottom as u64);
     }
-    let next = put_number(room, at, sums.left as u64);
-    let next = put_number(room, next, sums.top as u64);
-    let next = put_number(room, next, sums.right as u64);
-    put_number(room, next, sums.bottom as u64)
 }
 
 // The line of a refusal: code and number, and where the code is 3 the sums.
-fn put_refused(room: &mut [u8], at: usize, a: Answer, sums: Sums) -> usize
-    requires { at + length (refused_text a sums) ≤ length room.old }
-    ensures { Wrote room.old at (refused_text a sums) room.new result }
+#[tactic(auto, unfolding(crate::specs::Lines::refused_text, crate::specs::Lines::spaced))]
+fn put_refused(text: &mut Text, refusal: Refusal, sums: Sums)
+    requires { Fits text.old (refused_text refusal sums) }
+    ensures { Wrote text.old (refused_text refusal sums) text.new }
 {
-    let code = answers::code(a);
-    let number = answers::number(a);
-    let next = text::put_bytes(room, at, b"REFUSED");
-    let next = put_number(room, next, code as u64);
-    let next = put_number(room, next, number);
-    let next = put_sums(room, next, code, sums);
-    text::put_byte(room, next, b'\n')
+    let answer: Answer = Err(refusal);
+    text.put_bytes(b"REFUSED");
+    put_number(text, answers::code(answer) as u64);
+    put_number(text, answers::number(answer));
+    put_sums(text, refusal, sums);
+    text.put_byte(b'\n');
 }
 
 // The text for a job that was read: its map's, or the line of the router's refusal.
-fn put_job(room: &mut [u8], job: Job) -> usize
-    requires { length (job_text job) ≤ length room.old }
-    ensures { Wrote room.old 0 (job_text job) room.new result }
+#[tactic(auto, unfolding(crate::specs::Listing::job_text))]
+fn put_job(text: &mut Text, job: Job)
+    requires { Fits text.old (job_text job) }
+    ensures { Wrote text.old (job_text job) text.new }
 {
     let mut map = [0u8; 48];
-    let routed = router::route(job.size, job.counts, &mut map);
-    let answer = routed.answer;
-    let Answer::Done = answer else {
-        return put_refused(room, 0, answer, routed.sums);
-    };
-    let n = frame::map_length(job.size);
-    put_map(room, 0, job.size, &map[..n])
+    let routed = router::route(job, &mut map);
+    match routed.answer {
+        Ok(()) => put_map(text, job.size, &map[..frame::map_length(job.size)]),
+        Err(refusal) => put_refused(text, refusal, routed.sums),
+    }
 }
 
 // The text for a job record.
-fn put_text(room: &mut [u8], input: &[u8]) -> usize
-    requires { length (text_of input.now) ≤ length room.old }
-    ensures { Wrote room.old 0 (text_of input.now) room.new result }
+#[tactic(auto, unfolding(crate::specs::Listing::text_of))]
+fn put_text(text: &mut Text, input: &[u8])
+    requires { Fits text.old (text_of input.now) }
+    ensures { Wrote text.old (text_of input.now) text.new }
 {
-    let read = jobs::read_job(input);
-    let answer = read.answer;
-    let Answer::Done = answer else {
-        return put_refused(room, 0, answer, overfull::no_sums());
-    };
-    put_job(room, read.job)
+    match jobs::read_job(input) {
+        Ok(job) => put_job(text, job),
+        Err(refusal) => put_refused(text, refusal, overfull::no_sums()),
+    }
 }
 
 // A room of so many bytes is long enough for every text.
 const MOST_TEXT: usize = 3857;
 
-// Makes the text for a job record at the start of the room.
-pub fn list(input: &[u8], room: &mut [u8]) -> Listed
+// Makes the text for a job record at the start of the room, and gives its length; a room that is too short is refused.
+#[tactic(auto, using(crate::proofs::Length::text_length), unfolding(crate::specs::Listing::listed, crate::specs::Listing::listed_room))]
+pub fn list(input: &[u8], room: &mut [u8]) -> Result<usize, Refusal>
     ensures value { result ≡ listed input.now room.old }
     ensures room_after { room.new ≡ listed_room input.now room.old }
 {
     if room.len() < MOST_TEXT {
-        return Listed {
-            answer: Answer::Room(MOST_TEXT),
-            len: 0,
-        };
+        return Err(Refusal::Room(MOST_TEXT));
     }
-    Listed {
-        answer: Answer::Done,
-        len: put_text(room, input),
-    }
+    let mut text = Text { room, at: 0 };
+    put_text(&mut text, input);
+    Ok(text.at)
 }

@@ -1,7 +1,7 @@
 -- What the map check means: it is done exactly for the maps that carry the job; past 12 and 13 no side sum is above the size; and what
 -- the codes 12 and 13 name. Assumes nothing.
 use Prim.Native.Nat.{ℕ, ◌≤◌}
-use mathlib.Core.Path.{◌≡◌, refl, sym}
+use mathlib.Core.Path.{◌≡◌, refl}
 use mathlib.Core.Bool.{Bool, true, false, cond}
 use mathlib.Core.List.{List}
 use native.Mathlib.Omega.{arith}
@@ -9,17 +9,18 @@ use lib.Dec.{eqb, ltb, leb}
 use lib.ListN.{length}
 use borrow.Author.Tests.{eqb-true, eq-eqb, ltb-true, ltb-false, leb-true, leb-false}
 use Rattle.counting.specs.Lists.{Bytes}
-use Rattle.counting.proofs.Bools.{clear}
-use Rattle.answers.specs.declared.Answer.TheVariants.{Done, Room, Spare, Shared, Count}
+use Rattle.std.specs.Prelude.{Err}
+use Rattle.answers.specs.declared.Refusal.TheVariants.{Room, Spare, Shared, Count}
+use Rattle.answers.specs.Answer.{Done}
 use Rattle.answers.specs.Lent.{is_done}
-use Rattle.answers.proofs.Done.{not_done, both_done, if_refuses, if_told}
+use Rattle.answers.proofs.Done.{not_done, both_done, if_refuses, if_told, first-refused}
 use Rattle.wiring.specs.Wiring.{nets, Within, Apart, closed_of}
 use Rattle.wiring.specs.Frame.{four, frame}
 use Rattle.wiring.specs.Map.{closed_in, IsMap, MapCarries}
 use Rattle.wiring.specs.Check.{spare_set, clash_at, LowestSharing, wrong_type, WrongFirst}
 use Rattle.wiring.proofs.Pigeon.{carried_within}
 use Rattle.wiring.proofs.Frame.{frame_proper}
-use Rattle.wiring.proofs.Check.{spare_none, clash_lowest, clash_none, none_clash, wrong_first, wrong_none}
+use Rattle.wiring.proofs.Check.{spare_none, clash_lowest, clash_none, wrong_first, wrong_none}
 use Rattle.frame.specs.Leaves.{map_bytes}
 use Rattle.frame.specs.Tests.{Served, size_test}
 use Rattle.frame.proofs.Tests.{size_is, size_served}
@@ -32,13 +33,13 @@ module _ (W : ℕ) (m : List ℕ) where
   unfolding form_test
   form_long e = eqb-true _ _ (long (eqb (length m) (map_bytes W)) (spare_set (frame W).relays m) e)
     where
-      long : (t u : Bool) → is_done (cond t (cond u Spare Done) (Room (map_bytes W))) ≡ true → t ≡ true
+      long : (t u : Bool) → is_done (cond t (cond u (Err Spare) Done) (Err (Room (map_bytes W)))) ≡ true → t ≡ true
       long true u e = refl
-      long false u e = absurd (clear false e refl)
+      long false u e = cc
 
   form_map : Bytes m → is_done (form_test W m) ≡ true → IsMap (frame W).relays m
   unfolding form_test
-  form_map b e = record { long = form_long e; bytes = b; spare = spare_none _ m (if_refuses _ Spare refl (rw (eq-eqb _ _ (form_long e)) at e)) }
+  form_map b e = record { long = form_long e; bytes = b; spare = spare_none _ m (if_refuses _ Spare (rw (eq-eqb _ _ (form_long e)) at e)) }
 
   map_form : IsMap (frame W).relays m → Done ≡ form_test W m
   map_form a = form_done W m (map_bytes W) refl a.long (λ k p q. a.spare k p (omega (arith, a.long)))
@@ -46,15 +47,12 @@ module _ (W : ℕ) (m : List ℕ) where
   -- code 12
   shared_apart : is_done (shared_test W m) ≡ true → Apart (frame W) (closed_in m)
   unfolding shared_test
-  shared_apart e = clash_none (frame W) (closed_in m) (ltb-false _ _ (if_refuses _ (Shared (clash_at (frame W) (closed_in m))) refl e))
+  shared_apart e = clash_none (frame W) (closed_in m) (ltb-false _ _ (if_refuses _ (Shared (clash_at (frame W) (closed_in m))) e))
 
-  apart_shared : Apart (frame W) (closed_in m) → Done ≡ shared_test W m
-  apart_shared a = shared_nowhere W m _ (sym (none_clash (frame W) (closed_in m) a)) (omega arith)
-
-  pub shared_is : (k : ℕ) → shared_test W m ≡ Shared k → LowestSharing (frame W) (closed_in m) k
+  pub shared_is : (k : ℕ) → shared_test W m ≡ Err (Shared k) → LowestSharing (frame W) (closed_in m) k
   unfolding shared_test
   shared_is k e =
-      let t = if_told (ltb (clash_at (frame W) (closed_in m)) (frame W).relays) _ (Shared k) refl e in
+      let t = if_told (ltb (clash_at (frame W) (closed_in m)) (frame W).relays) _ e in
       let z : clash_at (frame W) (closed_in m) ≡ k = cc t.1 in
       rw (← z) (clash_lowest (frame W) (closed_in m) (ltb-true _ _ t.0))
 
@@ -73,18 +71,18 @@ module _ (W : ℕ) (m : List ℕ) where
 
   pub is_closed_map : Closable → closed_test W m ≡ Done
   unfolding closed_test map_test
-  is_closed_map c = rw (← size_served W c.served.0 c.served.1, ← map_form c.map, ← apart_shared c.apart)
+  is_closed_map c = rw (← size_served W c.served.0 c.served.1, ← map_form c.map, ← shared_nowhere W m c.apart)
 
 -- code 13
 module _ (W : ℕ) (n m : List ℕ) where
   counts_right : is_done (counts_test W n m) ≡ true → (c : ℕ) → 1 ≤ c → c ≤ 6 → closed_of (frame W) (closed_in m) c ≡ nets n c
   unfolding counts_test
-  counts_right e = wrong_none (frame W) n (closed_in m) (leb-false _ _ (if_refuses _ (Count (wrong_type (frame W) n (closed_in m))) refl e))
+  counts_right e = wrong_none (frame W) n (closed_in m) (leb-false _ _ (if_refuses _ (Count (wrong_type (frame W) n (closed_in m))) e))
 
-  pub count_is : (c : ℕ) → counts_test W n m ≡ Count c → WrongFirst (frame W) n (closed_in m) c
+  pub count_is : (c : ℕ) → counts_test W n m ≡ Err (Count c) → WrongFirst (frame W) n (closed_in m) c
   unfolding counts_test
   count_is c e =
-      let t = if_told (leb (wrong_type (frame W) n (closed_in m)) 6) _ (Count c) refl e in
+      let t = if_told (leb (wrong_type (frame W) n (closed_in m)) 6) _ e in
       let z : wrong_type (frame W) n (closed_in m) ≡ c = cc t.1 in
       rw (← z) (wrong_first (frame W) n (closed_in m) (leb-true _ _ t.0))
 
@@ -95,7 +93,7 @@ module _ (W : ℕ) (n m : List ℕ) where
   -- a map that may not be closed is refused for that, whatever its job
   pub check_first : (closed_test W m ≡ Done → ⊥) → check_map W n m ≡ closed_test W m
   unfolding check_map
-  check_first f = simp (not_done (closed_test W m) f)
+  check_first f = first-refused (closed_test W m) _ (not_done _ f)
 
   -- the map carries the job
   pub record Carried : Type 0 where

@@ -1,6 +1,6 @@
 -- What the map check's numbers tell (scope, "Numbers that come back"): of a map m, of a frame of size W and of a job n. Assumes nothing.
 use Rattle.std.specs.Prelude.{ℕ, ◌≡◌, ◌≢◌, true, List, length}
-use Rattle.answers.specs.declared.Answer.{Answer}
+use Rattle.answers.specs.Answer.{Answer}
 use Rattle.answers.specs.Table.{code_of, number_of}
 use Rattle.wiring.specs.Frame.{frame}
 use Rattle.wiring.specs.Map.{closed_in}

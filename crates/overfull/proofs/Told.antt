@@ -5,9 +5,10 @@ use mathlib.Core.Bool.{Bool, true, false, cond}
 use mathlib.Core.List.{List}
 use native.Mathlib.Omega.{arith}
 use lib.Dec.{eqb}
-use borrow.Author.Tests.{ltb-true, lt-ltb, eqb-false}
-use Rattle.answers.specs.declared.Answer.{Answer}
-use Rattle.answers.specs.declared.Answer.TheVariants.{Done, Overfull}
+use borrow.Author.Tests.{ltb-true, lt-ltb, eqb-false, ne_eqb}
+use Rattle.std.specs.Prelude.{Err}
+use Rattle.answers.specs.declared.Refusal.TheVariants.{Overfull}
+use Rattle.answers.specs.Answer.{Answer, Done}
 use Rattle.answers.specs.Table.{code_of, number_of}
 use Rattle.wiring.specs.Wiring.{side_sum}
 use Rattle.wiring.specs.Frame.{four}
@@ -18,7 +19,6 @@ use Rattle.frame.specs.declared.Counts.{Counts}
 use Rattle.frame.specs.Leaves.{count_list}
 use Rattle.overfull.specs.Overfull.{overfull_test, sums_of, no_sums, sum_at, sums_beside}
 use Rattle.overfull.specs.Told.{SomeSide, SidesTold}
-use Rattle.overfull.proofs.Overfull.{beside_other}
 
 pub sum_at_lem : (n : List ℕ) (s : ℕ) → 1 ≤ s → s ≤ 4 → sum_at (sums_of n) s ≡ side_sum four n s
 sum_at_lem n zero a b = absurd (omega arith)
@@ -58,10 +58,11 @@ module _ (W : ℕ) (n : Counts) where
   unfolding overfull_test sums_beside
   overfull_told = go (eqb sides 0) refl
     where
-      go : (b : Bool) → eqb sides 0 ≡ b → let a = cond b Done (Overfull sides) in code_of a ≡ 3 → SidesTold W n (number_of a) (sums_beside a job)
+      go : (b : Bool) → eqb sides 0 ≡ b → let a = cond b Done (Err (Overfull sides)) in code_of a ≡ 3 → SidesTold W n (number_of a) (sums_beside a job)
       go true e x = absurd (omega arith)
       go false e x = sides_told (eqb-false sides 0 e)
 
 -- no sum is left over
 pub none_beside : (a : Answer) (n : List ℕ) → (code_of a ≡ 3 → ⊥) → sums_beside a n ≡ no_sums
-none_beside a n h = sym (beside_other a n (code_of a) refl h)
+unfolding sums_beside
+none_beside a n h = rw (ne_eqb (code_of a) 3 h)

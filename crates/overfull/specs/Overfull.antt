@@ -1,7 +1,7 @@
 -- All the overfull sides at once (requests, item 3): code 3, and the four side sums beside it. Assumes nothing.
-use Rattle.std.specs.Prelude.{ℕ, ◌-◌, cond, List, [], ◌∷◌, eqb, get_or}
-use Rattle.answers.specs.declared.Answer.{Answer}
-use Rattle.answers.specs.declared.Answer.TheVariants.{Done, Overfull}
+use Rattle.std.specs.Prelude.{ℕ, ◌-◌, cond, List, [], ◌∷◌, eqb, get_or, Err}
+use Rattle.answers.specs.declared.Refusal.TheVariants.{Overfull}
+use Rattle.answers.specs.Answer.{Answer, Done}
 use Rattle.answers.specs.Table.{code_of}
 use Rattle.wiring.specs.Wiring.{side_sum}
 use Rattle.wiring.specs.Frame.{four}
@@ -10,7 +10,7 @@ use Rattle.overfull.specs.declared.Sums.{Sums}
 
 -- the router's code 3: the sum of 1, 2, 4, 8 for those of L, T, R, B that are asked for more than W nets
 unfoldable pub overfull_test : ℕ → List ℕ → Answer
-overfull_test W n = let sides : ℕ = overfull_sides four 4 W n in cond (eqb sides 0) Done (Overfull sides)
+overfull_test W n = let sides : ℕ = overfull_sides four 4 W n in cond (eqb sides 0) Done (Err (Overfull sides))
 
 -- the side sums of L, T, R, B
 abbrev pub sums_of : List ℕ → Sums

@@ -8,11 +8,11 @@ ghost use Rattle.wiring.specs.Check.{overfull, overfull_sides};
 ghost use Rattle.frame.specs.Leaves.{count_list};
 ghost use Rattle.overfull.specs.Overfull.{overfull_test, sums_of, no_sums, sums_beside};
 
-use answers::Answer;
-use frame::{Counts, side_sum};
+use answers::{Answer, Refusal};
+use frame::{Counts, Job, side_sum};
 
 // The nets that counts ask of each side.
-#[derive(Clone, Copy)]
+#[derive(Clone, Copy, Debug, PartialEq, Eq)]
 pub struct Sums {
     pub left: u32,
     pub top: u32,
@@ -21,36 +21,38 @@ pub struct Sums {
 }
 
 // The bit of a side that is overfull; 0 for one that is not.
-fn bit_if_over(size: u16, counts: Counts, side: usize, bit: u16) -> u16
-    ensures { result ≡ only_if (overfull four size (count_list counts) side) bit }
+fn bit_if_over(job: Job, side: usize, bit: u16) -> u16
+    ensures { result ≡ only_if (overfull four job.size (count_list job.counts) side) bit }
 {
-    let most = size as u32;
-    if most < side_sum(counts, side) {
+    let most = job.size as u32;
+    if most < side_sum(job.counts, side) {
         return bit;
     }
     0
 }
 
-// The overfull sides, as the sum of 1, 2, 4, 8 for L, T, R, B.
-pub fn overfull_sides(size: u16, counts: Counts) -> u16
-    ensures { result ≡ overfull_sides four 4 size (count_list counts) }
+// The overfull sides, as the sum of 1, 2, 4, 8 for L, T, R, B. A line a side: a loop's invariant would speak of powers of two.
+#[tactic(auto, unfolding(wiring::specs::Check::overfull_sides, counting::specs::Count::sum_to))]
+pub fn overfull_sides(job: Job) -> u16
+    ensures { result ≡ overfull_sides four 4 job.size (count_list job.counts) }
 {
-    let left = bit_if_over(size, counts, 1, 1);
-    let top = bit_if_over(size, counts, 2, 2);
-    let right = bit_if_over(size, counts, 3, 4);
-    let bottom = bit_if_over(size, counts, 4, 8);
+    let left = bit_if_over(job, 1, 1);
+    let top = bit_if_over(job, 2, 2);
+    let right = bit_if_over(job, 3, 4);
+    let bottom = bit_if_over(job, 4, 8);
     left + top + right + bottom
 }
 
 // The router's test of the side sums.
-pub fn test_overfull(size: u16, counts: Counts) -> Answer
-    ensures { result ≡ overfull_test size (count_list counts) }
+#[tactic(auto, unfolding(crate::specs::Overfull::overfull_test))]
+pub fn test_overfull(job: Job) -> Answer
+    ensures { result ≡ overfull_test job.size (count_list job.counts) }
 {
-    let sides = overfull_sides(size, counts);
+    let sides = overfull_sides(job);
     if sides == 0 {
-        return Answer::Done;
+        return Ok(());
     }
-    Answer::Overfull(sides)
+    Err(Refusal::Overfull(sides))
 }
 
 // The four side sums.
@@ -82,8 +84,8 @@ pub fn no_sums() -> Sums
 pub fn sums_beside(answer: Answer, counts: Counts) -> Sums
     ensures { result ≡ sums_beside answer (count_list counts) }
 {
-    if answers::code(answer) != 3 {
-        return no_sums();
+    match answer {
+        Err(Refusal::Overfull(_)) => sums_of(counts),
+        _ => no_sums(),
     }
-    sums_of(counts)
 }

@@ -1,7 +1,7 @@
 -- What bytes a pattern record is (scope, "Records"): a job's head and the map's field. Assumes nothing.
 use Rattle.std.specs.Prelude.{ℕ, List, ◌++◌}
 use Rattle.fields.specs.Format.{field}
-use Rattle.jobs.specs.declared.Job.{Job}
+use Rattle.frame.specs.declared.Job.{Job}
 use Rattle.jobs.specs.Format.{head_bytes}
 
 -- tag 03, length m: the map

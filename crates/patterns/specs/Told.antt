@@ -1,8 +1,8 @@
 -- What the numbers of the pattern reader tell, besides those of both readers. Assumes nothing.
 use Rattle.std.specs.Prelude.{ℕ, ◌≡◌, List, length}
-use Rattle.answers.specs.declared.Answer.{Answer}
+use Rattle.answers.specs.Answer.{Answer}
 use Rattle.frame.specs.Leaves.{map_bytes}
-use Rattle.jobs.specs.declared.Job.{Job}
+use Rattle.frame.specs.declared.Job.{Job}
 use Rattle.patterns.specs.Format.{pattern_record}
 use Rattle.patterns.specs.Read.{check_job}
 

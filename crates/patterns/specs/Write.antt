@@ -1,8 +1,8 @@
 -- What writing a pattern record answers, and what the room holds afterwards. Assumes nothing.
 use Rattle.std.specs.Prelude.{ℕ, List, length}
-use Rattle.answers.specs.declared.Answer.{Answer}
+use Rattle.answers.specs.Answer.{Answer}
 use Rattle.answers.specs.Lent.{and_then, room_for, lent_after}
-use Rattle.jobs.specs.declared.Job.{Job}
+use Rattle.frame.specs.declared.Job.{Job}
 use Rattle.patterns.specs.Format.{pattern_record}
 use Rattle.patterns.specs.Read.{check_job}
 

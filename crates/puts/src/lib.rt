@@ -9,9 +9,8 @@ pub fn put_bytes(room: &mut [u8], at: usize, bytes: &[u8])
     requires { at + length bytes.now ≤ length room.old }
     ensures { room.new ≡ sets room.old at bytes.now }
 {
-    let mut i = 0;
-    while i < bytes.len() {
-        room[at + i] = bytes[i];
-        i += 1;
+    // Not `copy_from_slice`: that would be `memmove`, and the archive needs nothing from outside but `memset`.
+    for (i, byte) in bytes.iter().enumerate() {
+        room[at + i] = *byte;
     }
 }

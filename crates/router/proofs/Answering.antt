@@ -4,7 +4,7 @@ use mathlib.Core.Path.{◌≡◌, sym, ◌∙◌}
 use mathlib.Core.Bool.{true}
 use mathlib.Core.List.{List, ◌++◌}
 use lib.ListN.{length, take, drop}
-use Rattle.answers.specs.declared.Answer.TheVariants.{Done}
+use Rattle.answers.specs.Answer.{Done}
 use Rattle.answers.specs.Lent.{is_done}
 use Rattle.answers.proofs.Done.{done_is, is_done_lem}
 use Rattle.answers.proofs.Lent.{all_done, done_all}

@@ -7,8 +7,7 @@ use mathlib.Core.Bool.{true}
 use mathlib.Core.List.{List, ◌++◌}
 use lib.ListN.{length, take, drop, replicate}
 use lib.Seq.{take_at}
-use Rattle.answers.specs.declared.Answer.{Answer}
-use Rattle.answers.specs.declared.Answer.TheVariants.{Done}
+use Rattle.answers.specs.Answer.{Answer, Done}
 use Rattle.answers.specs.Lent.{lent_after}
 use Rattle.answers.proofs.Lent.{Outcome, out_done, routed, all_done}
 use Rattle.counting.specs.Lists.{among}

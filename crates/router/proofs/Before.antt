@@ -10,10 +10,11 @@ use lib.Dec.{eqb, leb, ltb}
 use lib.ListN.{length}
 use borrow.Author.Tests.{eqb-true, eqb-false, le-leb}
 use Rattle.counting.specs.Count.{first_from}
-use Rattle.answers.specs.declared.Answer.{Answer}
-use Rattle.answers.specs.declared.Answer.TheVariants.{Done, Room, Overfull}
+use Rattle.std.specs.Prelude.{Ok, Err}
+use Rattle.answers.specs.declared.Refusal.TheVariants.{Room, Overfull}
+use Rattle.answers.specs.Answer.{Answer, Done}
 use Rattle.answers.specs.Table.{code_of, number_of}
-use Rattle.answers.specs.Lent.{when_done, and_then, room_for}
+use Rattle.answers.specs.Lent.{and_then, room_for}
 use Rattle.wiring.specs.Wiring.{side_sum}
 use Rattle.wiring.specs.Frame.{four}
 use Rattle.wiring.specs.Check.{overfull_sides, has_side}
@@ -36,9 +37,14 @@ AnswerBefore = Answer ⊎ (ℕ × ℕ)
 unfoldable pub overfull_before : ℕ → List ℕ → AnswerBefore
 overfull_before W n = let s : ℕ = first_over four 4 W n in cond (leb s 4) (inr (s, side_sum four n s)) (inl Done)
 
+-- a test's refusal, or what comes after it
+abbrev pub unless_refused : Answer → AnswerBefore → AnswerBefore
+unless_refused (Ok x) more = more
+unless_refused (Err r) more = inl (Err r)
+
 -- the order 1, 2, 3 to 6
 unfoldable pub route_before : ℕ → Counts → List ℕ → AnswerBefore
-route_before W n room = when_done (size_test W) inl (when_done (room_for (map_bytes W) room) inl (overfull_before W (count_list n)))
+route_before W n room = unless_refused (size_test W) (unless_refused (room_for (map_bytes W) room) (overfull_before W (count_list n)))
 
 -- with code 3 the side of the lowest bit, and its sum
 abbrev pub read_off : Routed → AnswerBefore
@@ -60,7 +66,7 @@ module _ (W : ℕ) (n : Counts) where
   unfolding overfull_before overfull_test sums_beside
   over-told = go (eqb sides 0) refl
     where
-      go : (b : Bool) → eqb sides 0 ≡ b → overfull_before W job ≡ read_off (beside (cond b Done (Overfull sides)))
+      go : (b : Bool) → eqb sides 0 ≡ b → overfull_before W job ≡ read_off (beside (cond b Done (Err (Overfull sides))))
       go true e = rw (none_over four 4 W job (none_within four 4 W job four_rows (eqb-true _ _ e)))
       go false e =
           let f = first-there four 4 W job four_rows (eqb-false _ _ e) in
@@ -70,6 +76,6 @@ module _ (W : ℕ) (n : Counts) where
   unfolding route_before routed route_answer sums_beside
   same-told room = ⊎_elim (λ e. rw e (fits (ltb (length room) (map_bytes W)))) (λ e. rw e) (size_tested W)
     where
-      fits : (b : Bool) → let r = cond b (Room (map_bytes W)) Done in when_done r inl (overfull_before W job) ≡ read_off (beside (and_then r (overfull_test W job)))
+      fits : (b : Bool) → let r = cond b (Err (Room (map_bytes W))) Done in unless_refused r (overfull_before W job) ≡ read_off (beside (and_then r (overfull_test W job)))
       fits true = refl
       fits false = over-told

@@ -16,7 +16,6 @@ use Rattle.loads.specs.Table.{row}
 use Rattle.loads.specs.Load.{at_most, less, fits, pick, load}
 use Rattle.loads.specs.Seat.{net_list, seats, seating}
 use Rattle.loads.specs.declared.Seated.{Seated}
-use Rattle.loads.specs.Seated.{net_types, SeatedRow}
 use Rattle.loads.proofs.Counts.{SumsWithin, part_test}
 use Rattle.loads.proofs.Choice.{Loaded, loaded, later_none}
 use Rattle.cells.specs.Cells.{capacity, run, cells, without}
@@ -113,42 +112,55 @@ pub centre_chain : (W p : ℕ) (n : Counts) (r0 r1 r2 r3 r4 r5 r6 : List ℕ)
 unfolding centre net_list
 centre_chain W p n r0 r1 r2 r3 r4 r5 r6 a b c d e f = simp (map-append, map-replicate, close_all-append) (cc)
 
--- what is known whenever the loop over the cells is tested: the cells from p on, but for one, hold r; no row before q fits them, x has
--- the nets of row q, and the target is what the room becomes when the rest is closed
-pub record Turn (W skip r p q : ℕ) (n : Counts) (x : Seated) (room target : List ℕ) : Type 0 where
+-- what is known whenever the loop over the cells is tested: the cells from p on, but for one, hold r; no row before that of x fits them,
+-- and the target is what the room becomes when the rest is closed
+pub record Turn (W skip r p : ℕ) (n : Counts) (x : Seated) (room target : List ℕ) : Type 0 where
   pub low : 1 ≤ p
   pub upto : p ≤ suc ((W + 1) / 2)
   pub held : r ≡ capacity W (from W skip p)
   pub most : r ≤ W
   pub within : SumsWithin r n
-  pub row : q < 56
-  pub none : 2 ≤ r → (j : ℕ) → j < q → fits n (r - 2) j ≡ false
-  pub seated : SeatedRow q x
+  pub row : x.q < 56
+  pub none : 2 ≤ r → (j : ℕ) → j < x.q → fits n (r - 2) j ≡ false
   pub todo : close_all room (serve W (from W skip p) n) ≡ target
 
-pub turn_start : (W skip held : ℕ) (n : Counts) (x : Seated) (room : List ℕ) → held ≡ capacity W (without skip (cells W)) → SumsWithin held n → SeatedRow 0 x
-    → Turn W skip held 1 0 n x room (close_all room (serve W (without skip (cells W)) n))
+pub turn_start : (W skip held : ℕ) (n : Counts) (x : Seated) (room : List ℕ) → held ≡ capacity W (without skip (cells W)) → SumsWithin held n → x.q ≡ 0
+    → Turn W skip held 1 n x room (close_all room (serve W (without skip (cells W)) n))
 turn_start W skip held n x room e h s = record {
   low = omega arith;
   upto = omega arith;
   held = e ∙ ap (capacity W) (sym (from_start W skip));
   most = omega (arith, without_holds W skip (cells W), holds_all W);
   within = h;
-  row = omega arith;
+  row = rw s (omega arith);
   none = λ l j b. absurd (omega arith);
-  seated = s;
   todo = ap (λ (ps : List ℕ). close_all room (serve W ps n)) (from_start W skip);
 }
 
--- a turn with two positions or more a side left
-module _ {W skip r p q : ℕ} {n : Counts} {x : Seated} {room target : List ℕ} (t : Turn W skip r p q n x room target) (two : 2 ≤ r) where
-  pub turn_there : p ≤ (W + 1) / 2
-  turn_there = there W skip p (omega (arith, t.held))
+module _ {W skip r p : ℕ} {n : Counts} {x : Seated} {room target : List ℕ} (t : Turn W skip r p n x room target) where
+  -- a block that is not left out has two positions a side, and past the blocks one is left at most
+  pub two_left : p + p ≤ W → p ≢ skip → 2 ≤ r
+  unfolding capacity
+  two_left h e = omega (arith, t.held, ap (capacity W) (from_next W skip p (omega arith) e), size_block W p (omega arith))
+
+  pub one_at_most : W < p + p → r ≤ 1
+  unfolding capacity
+  one_at_most h = go (dec_le p ((W + 1) / 2)) (ℕ_discrete p skip)
+    where
+      past : p ≤ (W + 1) / 2 → from W skip (p + 1) ≡ []
+      past l = from_end W skip (p + 1) (omega arith)
+
+      go : Dec (p ≤ (W + 1) / 2) → Dec (p ≡ skip) → r ≤ 1
+      go (no z) s = omega (arith, t.held, ap (capacity W) (from_end W skip p (omega arith)))
+      go (yes l) (yes e) = omega (arith, t.held, ap (capacity W) (from_skip W skip p l e ∙ past l))
+      go (yes l) (no e) =
+          let z = ap (capacity W) (from_next W skip p l e ∙ ap (λ (ps : List ℕ). p ∷ ps) (past l)) in
+          omega (arith, t.held, z, size-centre W p (omega arith))
 
   -- the cell that is left out
-  pub turn_skip : p ≡ skip → Turn W skip r (p + 1) q n x room target
-  turn_skip e =
-      let l = turn_there in
+  pub turn_skip : p + p ≤ W → p ≡ skip → Turn W skip r (p + 1) n x room target
+  turn_skip h e =
+      let l : p ≤ (W + 1) / 2 = omega arith in
       let z = from_skip W skip p l e in
       record {
         low = omega arith;
@@ -158,16 +170,16 @@ module _ {W skip r p q : ℕ} {n : Counts} {x : Seated} {room target : List ℕ}
         within = t.within;
         row = t.row;
         none = t.none;
-        seated = t.seated;
         todo = ap (λ (ps : List ℕ). close_all room (serve W ps n)) (sym z) ∙ t.todo;
       }
 
-  module _ (other : p ≢ skip) where
-    turn_block : Block W skip p
-    turn_block = block W skip p (omega (arith, t.held)) other
+  -- a block
+  module _ (inside : p + p ≤ W) (other : p ≢ skip) where
+    two : 2 ≤ r
+    two = two_left inside other
 
-    pub turn_place : p + p ≤ W
-    turn_place = turn_block.below
+    turn_block : Block W skip p
+    turn_block = block W skip p (omega (arith, t.held, two)) other
 
     left : r - 2 ≡ capacity W (from W skip (p + 1))
     left = omega (arith, t.held, turn_block.left)
@@ -183,19 +195,18 @@ module _ {W skip r p q : ℕ} {n : Counts} {x : Seated} {room target : List ℕ}
       unfolding load
       turn_most {l} e = part_test l n (rw (e, chosen) turn_loaded.part)
 
-      pub turn_next : {x' : Seated} {l n' : Counts} {room' : List ℕ} → SeatedRow next x' → l ≡ row next → n' ≡ less n l
-          → room' ≡ close_all room (map (spread W p) (seats (net_types x') x'.seating)) → Turn W skip (r - 2) (p + 1) next n' x' room' target
+      pub turn_next : {x' : Seated} {l n' : Counts} {room' : List ℕ} → x'.q ≡ next → l ≡ row next → n' ≡ less n l
+          → room' ≡ close_all room (map (spread W p) (seats x'.types.items x'.seating)) → Turn W skip (r - 2) (p + 1) n' x' room' target
       unfolding seating load
       turn_next {x'} {l} {n'} {room'} s e f g = record {
         low = omega arith;
-        upto = omega (arith, turn_place);
+        upto = omega (arith, turn_block);
         held = left;
         most = omega (arith, t.most);
         within = rw (f, e, chosen) turn_loaded.leaves;
-        row = turn_below;
-        none = λ h j b. rw (f, e) (none_later h j b);
-        seated = s;
-        todo = rw (f, e) (todo (rw (s.are, s.seated) at g));
+        row = rw s turn_below;
+        none = λ h j b. rw (f, e) (none_later h j (omega arith));
+        todo = rw (f, e) (todo (rw (x'.are, x'.first, s) at g));
       }
         where
           none_later : 2 ≤ r - 2 → (j : ℕ) → j < next → fits (less n (row next)) (r - 2 - 2) j ≡ false
@@ -210,13 +221,13 @@ module _ {W skip r p q : ℕ} {n : Counts} {x : Seated} {room target : List ℕ}
               rw (h, is) (sym (close_all-append room (map (spread W p) (seating l)) (serve W (from W skip (p + 1)) (less n l))) ∙ ap (close_all room) (sym (turn_block.serves n)) ∙ t.todo)
 
 -- the last turn: with one position a side left the counts fit the centre, and with none there is nothing to do
-module _ {W skip r p q : ℕ} {n : Counts} {x : Seated} {room target : List ℕ} (t : Turn W skip r p q n x room target) where
+module _ {W skip r p : ℕ} {n : Counts} {x : Seated} {room target : List ℕ} (t : Turn W skip r p n x room target) where
   last : Last W n (from W skip p)
   unfolding from
   last = last_run W skip (suc ((W + 1) / 2) - p) p n (omega (arith, t.upto)) t.low
 
-  pub one_left : r ≡ 1 → SumsWithin 1 n × (W / 2 + 1 ≤ W)
-  one_left e = (omega (arith, t.within), omega (arith, there W skip p (omega (arith, t.held)), t.low))
+  pub one_left : r ≡ 1 → SumsWithin 1 n
+  one_left e = omega (arith, t.within)
 
   pub end_centre : r ≡ 1 → {room' : List ℕ} → room' ≡ close_all room (centre W (W / 2 + 1) n) → room' ≡ target
   end_centre h e = e ∙ (rw (last.1 (sym t.held ∙ h)) at t.todo)

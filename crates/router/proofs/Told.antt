@@ -6,8 +6,9 @@ use native.Mathlib.Omega.{arith}
 use lib.Dec.{eqb}
 use lib.ListN.{length}
 use Rattle.counting.specs.Lists.{among}
-use Rattle.answers.specs.declared.Answer.{Answer}
-use Rattle.answers.specs.declared.Answer.TheVariants.{Done, Overfull}
+use Rattle.std.specs.Prelude.{Err}
+use Rattle.answers.specs.declared.Refusal.TheVariants.{Overfull}
+use Rattle.answers.specs.Answer.{Answer, Done}
 use Rattle.answers.specs.Table.{code_of, number_of, CodeIn}
 use Rattle.answers.proofs.Done.{unless_holds}
 use Rattle.wiring.specs.Frame.{four}
@@ -23,7 +24,7 @@ use Rattle.overfull.proofs.Told.{overfull_told, none_beside}
 use Rattle.router.specs.Router.{route_answer, routed}
 
 -- what holds of done and of code 3 holds of the test's answer
-over_holds : (P : Answer → Type 0) (W : ℕ) (n : List ℕ) → P Done → ((sides : ℕ) → P (Overfull sides)) → P (overfull_test W n)
+over_holds : (P : Answer → Type 0) (W : ℕ) (n : List ℕ) → P Done → ((sides : ℕ) → P (Err (Overfull sides))) → P (overfull_test W n)
 unfolding overfull_test
 over_holds P W n done over = unless_holds (eqb (overfull_sides four 4 W n) 0) (Overfull (overfull_sides four 4 W n)) P (over _) done
 

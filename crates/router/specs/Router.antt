@@ -1,7 +1,7 @@
 -- What the router gives for any size, counts and room: its answer, the four sums beside it, and every byte of the room afterwards. Assumes
 -- nothing.
 use Rattle.std.specs.Prelude.{ℕ, List}
-use Rattle.answers.specs.declared.Answer.{Answer}
+use Rattle.answers.specs.Answer.{Answer}
 use Rattle.answers.specs.Lent.{and_then, room_for, lent_after}
 use Rattle.frame.specs.declared.Counts.{Counts}
 use Rattle.frame.specs.Leaves.{count_list, map_bytes}

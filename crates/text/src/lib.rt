@@ -1,36 +1,42 @@
-// Text made in a lent room: each function writes from a place on and gives the place after what it wrote.
+// Text made in a lent room: each method writes from a place on and moves the place past what it wrote.
 #![tactic(auto)]
 
-ghost use Rattle.std.specs.Prelude.{[], ◌∷◌, ◌+◌, ◌≤◌, length};
-ghost use Rattle.text.specs.Decimal.{decimal};
-ghost use Rattle.text.specs.Wrote.{Wrote};
+ghost use Rattle.std.specs.Prelude.{[], ◌∷◌, ◌+◌, ◌≤◌, length, decimal};
 
-// One byte.
-pub fn put_byte(room: &mut [u8], at: usize, byte: u8) -> usize
-    requires { at + 1 ≤ length room.old }
-    ensures { Wrote room.old at (byte ∷ []) room.new result }
-{
-    room[at] = byte;
-    at + 1
+// A lent room, and the place in it where the text goes on.
+#[derive(Drop)]
+pub struct Text<'a> {
+    pub room: &'a mut [u8],
+    pub at: usize,
 }
 
-// Bytes one after the other.
-pub fn put_bytes(room: &mut [u8], at: usize, bytes: &[u8]) -> usize
-    requires { at + length bytes.now ≤ length room.old }
-    ensures { Wrote room.old at bytes.now room.new result }
-{
-    puts::put_bytes(room, at, bytes);
-    at + bytes.len()
-}
+impl<'a> Text<'a> {
+    ghost use Rattle.text.specs.Wrote.{Fits, Wrote};
 
-// A number in decimal, with the fewest digits.
-pub fn put_decimal(room: &mut [u8], at: usize, n: u64) -> usize
-    requires { at + length (decimal n) ≤ length room.old }
-    ensures { Wrote room.old at (decimal n) room.new result }
-{
-    if n < 10 {
-        return put_byte(room, at, 48 + n as u8);
+    // One byte.
+    pub fn put_byte(&mut self, byte: u8)
+        requires { Fits self.old (byte ∷ []) }
+        ensures { Wrote self.old (byte ∷ []) self.new }
+    {
+        self.room[self.at] = byte;
+        self.at += 1;
     }
-    let next = put_decimal(room, at, n / 10);
-    put_byte(room, next, 48 + (n % 10) as u8)
+
+    // Bytes one after the other.
+    pub fn put_bytes(&mut self, bytes: &[u8])
+        requires { Fits self.old bytes.now }
+        ensures { Wrote self.old bytes.now self.new }
+    {
+        puts::put_bytes(self.room, self.at, bytes);
+        self.at += bytes.len();
+    }
+
+    // A number in decimal, with the fewest digits.
+    pub fn put_decimal(&mut self, n: u64)
+        requires { Fits self.old (decimal n) }
+        ensures { Wrote self.old (decimal n) self.new }
+    {
+        let mut digits = itoa::Buffer::new();
+        self.put_bytes(digits.format(n).as_bytes());
+    }
 }

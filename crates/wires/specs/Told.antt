@@ -1,6 +1,6 @@
 -- What the codes 1 and 20 tell of a relay that a caller asks for, and what is told on done. Assumes nothing.
 use Rattle.std.specs.Prelude.{ℕ, ◌+◌, ◌≤◌, ◌≡◌}
-use Rattle.answers.specs.declared.Answer.{Answer}
+use Rattle.answers.specs.Answer.{Answer}
 use Rattle.answers.specs.Table.{code_of, number_of}
 use Rattle.wiring.specs.Wiring.{earlier, later}
 use Rattle.wiring.specs.Frame.{four, relay, frame}

@@ -2,57 +2,46 @@
 #![tactic(auto)]
 
 ghost use Rattle.std.specs.Prelude.{◌≡◌};
-ghost use Rattle.wires.specs.Wired.{not_wired, wired_as};
+ghost use Rattle.wires.specs.Wired.{wired_as, wired_told};
 
-use answers::Answer;
-use frame::{Sorted, Terminal, Terminals};
+use answers::Refusal;
+use frame::Terminal;
 
-// A relay of a frame that is served: its type, and its two terminals, that of the earlier side first. All are 0 beside a refusal.
+// A relay of a frame that is served: its type, and its two terminals, that of the earlier side first.
 #[derive(Clone, Copy)]
 pub struct Wired {
-    pub answer: Answer,
     pub kind: usize,
     pub earlier: Terminal,
     pub later: Terminal,
 }
 
-// Beside a refusal.
-fn not_wired(answer: Answer) -> Wired
-    ensures { result ≡ not_wired answer }
-{
-    Wired {
-        answer,
-        kind: 0,
-        earlier: Terminal {
-            side: 0,
-            position: 0,
-        },
-        later: Terminal {
-            side: 0,
-            position: 0,
-        },
-    }
-}
-
 // A relay's type and terminals.
-pub fn wiring_of(size: u16, relay: u16) -> Wired
+#[tactic(auto, unfolding(crate::specs::Wired::wired_as, frame::specs::Leaves::sorted, frame::specs::Leaves::terminals_of))]
+pub fn wiring_of(size: u16, relay: u16) -> Result<Wired, Refusal>
     ensures { result ≡ wired_as size relay }
 {
-    let answer = frame::test_size(size);
-    let Answer::Done = answer else {
-        return not_wired(answer);
-    };
-    let Sorted::Relay(kind, _) = frame::sort_relay(size as usize, relay as usize) else {
-        return not_wired(Answer::NotClosed(relay));
-    };
-    let Terminals::Joined(earlier, later) = frame::relay_terminals(size as usize, relay as usize)
-    else {
-        return not_wired(Answer::NotClosed(relay));
-    };
-    Wired {
-        answer,
+    frame::test_size(size)?;
+    let absent = Refusal::NotClosed(relay);
+    let (kind, _) = frame::sort_relay(size as usize, relay as usize).ok_or(absent)?;
+    let (earlier, later) = frame::relay_terminals(size as usize, relay as usize).ok_or(absent)?;
+    Ok(Wired {
         kind,
         earlier,
         later,
-    }
+    })
+}
+
+// What a caller is told who takes no `Result`: all are 0 beside a refusal.
+pub fn wired_told(read: Result<Wired, Refusal>) -> Wired
+    ensures { result ≡ wired_told read }
+{
+    let nowhere = Terminal {
+        side: 0,
+        position: 0,
+    };
+    read.unwrap_or(Wired {
+        kind: 0,
+        earlier: nowhere,
+        later: nowhere,
+    })
 }

@@ -1,34 +1,28 @@
--- Each way out of the code is an outcome of the definitions.
-use mathlib.Core.Path.{sym, ap, ◌∙◌}
+use mathlib.Core.Path.{◌≡◌, sym, ap, ◌∙◌}
 use native.Mathlib.Omega.{arith}
+use Rattle.std.specs.Prelude.{Some, None}
+use Rattle.std.proofs.lemmas.Result.{err_from_is_err_and}
+use Rattle.std.proofs.lemmas.Option.{MatchOption-at_some, MatchOption-at_none}
 use Rattle.answers.specs.Lent.{is_done}
-use Rattle.answers.proofs.Done.{not_done}
 use Rattle.changes.proofs.Answers.{start_served, type_is}
-use Rattle.changes.proofs.Ways.{add_start, add_type, add_none, add_done}
+use Rattle.changes.proofs.Ways.{add_none, add_done}
 use Rattle.changes.proofs.add_net.Goals as goal
 
-pub returns-in_default : goal.returns-in_default
-returns-in_default c =
-    let out = add_start _ _ _ _ c.test_start-started.ensures (not_done c.test_start-started.result c.in_default.not-Done) in
-    record { value = out.0; map_after = out.1 }
+pub invariant_of-lowest_free : goal.invariant_of-lowest_free
+invariant_of-lowest_free c = record { in_a_word = (start_served _ _ (sym c.test_start.ensures ∙ c.in_ok-test_start.was)).1 }
 
-pub returns-in_default-typed : goal.returns-in_default-typed
-returns-in_default-typed c =
-    let out = add_type _ _ _ (sym c.test_start-started.ensures ∙ c.in-Done.is) _ c.test_type-typed.ensures (not_done c.test_type-typed.result c.in_default-typed.not-Done) in
-    record { value = out.0; map_after = out.1 }
+pub lowest_free-free-requires : goal.lowest_free-free-requires
+lowest_free-free-requires c = type_is _ (ap is_done (sym c.test_type.ensures ∙ c.in_ok-test_type.was))
 
-pub lowest_free-k-requires : goal.lowest_free-k-requires
-lowest_free-k-requires c = let t = type_is _ (ap is_done (sym c.test_type-typed.ensures ∙ c.in-Done-typed.is)) in ((start_served _ _ (sym c.test_start-started.ensures ∙ c.in-Done.is)).1, t.0, t.1)
-
-pub returns-then-size-k : goal.returns-then-size-k
-returns-then-size-k c =
-    let out = add_none _ _ _ (sym c.test_start-started.ensures ∙ c.in-Done.is) (sym c.test_type-typed.ensures ∙ c.in-Done-typed.is) _ c.lowest_free-k.ensures c.if-size-k.true in
-    record { value = out.0; map_after = out.1 }
-
-pub overflow_cast-result : goal.overflow_cast-result
-overflow_cast-result c = omega (arith, c.if-size-k.false, (start_served _ _ (sym c.test_start-started.ensures ∙ c.in-Done.is)).1)
+pub returns-in_err-k : goal.returns-in_err-k
+returns-in_err-k c =
+    let none : c.lowest_free-free.result ≡ None = grind arith in
+    let out = add_none _ _ _ (sym c.test_start.ensures ∙ c.in_ok-test_start.was) (sym c.test_type.ensures ∙ c.in_ok-test_type.was) (MatchOption-at_none _ _ none c.lowest_free-free.ensures) in
+    let p = err_from_is_err_and c.from_residual-in_err-k.result c.from_residual-in_err-k.ensures.1 in
+    record { value = rw (p.1, p.2) (rw none at c.in_err-k.ensures.value ∙ out.0); map_after = out.1 }
 
 pub returns : goal.returns
 returns c =
-    let out = add_done _ _ _ (sym c.test_start-started.ensures ∙ c.in-Done.is) (sym c.test_type-typed.ensures ∙ c.in-Done-typed.is) _ c.lowest_free-k.ensures c.if-size-k.false _ c.close_relay.ensures in
+    let some : c.lowest_free-free.result ≡ Some c.in_ok-k.k = grind arith in
+    let out = add_done _ _ _ (sym c.test_start.ensures ∙ c.in_ok-test_start.was) (sym c.test_type.ensures ∙ c.in_ok-test_type.was) _ (MatchOption-at_some _ _ _ some c.lowest_free-free.ensures) c.close_relay.ensures in
     record { value = out.0; map_after = out.1 }

@@ -28,5 +28,5 @@ returns-in-4 c = sorted_at _ _ 4 c.if-size-eq0.false c.in-4.is (omega arith)
 pub returns-in-5 : goal.returns-in-5
 returns-in-5 c = sorted_at _ _ 5 c.if-size-eq0.false c.in-5.is (omega arith)
 
-pub returns-in_default : goal.returns-in_default
-returns-in_default c = sorted_past _ _ (past_six _ _ c.if-size-eq0.false (omega (arith, c.in_default)))
+pub returns-in-6-to-max : goal.returns-in-6-to-max
+returns-in-6-to-max c = sorted_past _ _ (past_six _ _ c.if-size-eq0.false (omega (arith, c.in-6-to-max)))

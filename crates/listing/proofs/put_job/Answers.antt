@@ -1,26 +1,20 @@
--- The router refuses, or the first bytes of the room that it was lent are the map.
-use mathlib.Core.Path.{ap}
-use native.Mathlib.Omega.{arith}
-use lib.ListN.{length}
-use Rattle.answers.proofs.Done.{not_done}
+-- Where the router is done, the first bytes of the room that it was lent are the map.
 use Rattle.text.proofs.Stores.{wrote_as}
-use Rattle.listing.proofs.Texts.{job-refused, job_mapped}
+use Rattle.listing.proofs.Texts.{Mapped, job_mapped}
 use Rattle.listing.proofs.put_job.Goals as goal
+use Rattle.listing.proofs.put_job.Goals.{After-map_length}
 
-pub put_refused-requires : goal.put_refused-requires
-put_refused-requires c = omega (arith, ap length (job-refused _ _ c.route-routed.ensures.value (not_done c.route-routed.result.answer c.in_default.not-Done)))
-
-pub returns-in_default : goal.returns-in_default
-returns-in_default c = wrote_as (job-refused _ _ c.route-routed.ensures.value (not_done c.route-routed.result.answer c.in_default.not-Done)) c.put_refused.ensures
+mapped : (c : After-map_length) → Mapped c.args.job c.map_length.result c.route-routed.new.room
+mapped c = job_mapped _ _ _ _ c.route-routed.ensures.value c.in-Ok.is c.map_length.ensures c.route-routed.ensures.room_after
 
 pub slice_bounds-map-end : goal.slice_bounds-map-end
-slice_bounds-map-end c = (job_mapped _ _ c.route-routed.ensures.value _ _ c.in-Done.is c.map_length-n.ensures c.route-routed.ensures.room_after).within
+slice_bounds-map-end c = (mapped (goal.at.slice_bounds-map-end c).After-map_length).within
 
 pub slice_bounds-put_map-end : goal.slice_bounds-put_map-end
-slice_bounds-put_map-end c = (job_mapped _ _ c.route-routed.ensures.value _ _ c.in-Done.is c.map_length-n.ensures c.route-routed.ensures.room_after).long
+slice_bounds-put_map-end c = (mapped (goal.at.slice_bounds-put_map-end c).After-map_length).long
 
 pub put_map-requires : goal.put_map-requires
-put_map-requires c = omega (arith, ap length (job_mapped _ _ c.route-routed.ensures.value _ _ c.in-Done.is c.map_length-n.ensures c.route-routed.ensures.room_after).text)
+put_map-requires c = rw (← (mapped (goal.at.put_map-requires c).After-map_length).text) c.requires
 
-pub returns : goal.returns
-returns c = wrote_as (job_mapped _ _ c.route-routed.ensures.value _ _ c.in-Done.is c.map_length-n.ensures c.route-routed.ensures.room_after).text c.put_map.ensures
+pub returns-in-Ok : goal.returns-in-Ok
+returns-in-Ok c = wrote_as (mapped (goal.at.returns-in-Ok c).After-map_length).text c.put_map.ensures

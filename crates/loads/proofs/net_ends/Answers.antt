@@ -1,29 +1,32 @@
 -- A type from 1 to 6 has its sides.
-use mathlib.Core.Path.{sym, ◌∙◌}
-use native.Mathlib.Omega.{arith}
-use Rattle.loads.proofs.Trial.{net_ends, sides_in, sides_always}
+use Rattle.std.proofs.Common.{◌≤◌, sym, ◌∙◌, arith}
+use Rattle.loads.proofs.Trial.{net_ends, sides_in, sides_some}
 use Rattle.loads.proofs.net_ends.Goals as goal
+use Rattle.loads.proofs.net_ends.Goals.{After-unwrap-earlier}
 
-pub returns-in_default : goal.returns-in_default
-returns-in_default c = absurd (sides_always _ c.requires.0 c.requires.1 (sym c.type_sides.ensures ∙ c.in_default.is))
+sides : (c : After-unwrap-earlier) → let s = c.unwrap-earlier.result in (1 ≤ s.0) × (s.0 ≤ 4) × (1 ≤ s.1) × (s.1 ≤ 4)
+sides c = sides_in c.args.kind _ _ c.requires.0 c.requires.1 (sym c.type_sides.ensures ∙ c.unwrap-earlier.ensures)
+
+pub unwrap-earlier-requires : goal.unwrap-earlier-requires
+unwrap-earlier-requires c = rw c.type_sides.ensures (sides_some _ c.requires.0 c.requires.1)
 
 pub overflow_sub-result : goal.overflow_sub-result
-overflow_sub-result c = (sides_in _ _ _ (omega arith) (omega arith) (sym c.type_sides.ensures ∙ c.in-Joins.is)).0
+overflow_sub-result c = (sides c).0
 
 pub overflow_mul-result : goal.overflow_mul-result
-overflow_mul-result c = omega (arith, (sides_in _ _ _ (omega arith) (omega arith) (sym c.type_sides.ensures ∙ c.in-Joins.is)))
+overflow_mul-result c = omega (arith, sides c)
 
 pub overflow_add-result : goal.overflow_add-result
-overflow_add-result c = omega (arith, (sides_in _ _ _ (omega arith) (omega arith) (sym c.type_sides.ensures ∙ c.in-Joins.is)))
+overflow_add-result c = omega (arith, sides c)
 
 pub overflow_sub-result-2 : goal.overflow_sub-result-2
-overflow_sub-result-2 c = (sides_in _ _ _ (omega arith) (omega arith) (sym c.type_sides.ensures ∙ c.in-Joins.is)).2
+overflow_sub-result-2 c = (sides c).2
 
 pub overflow_mul-result-2 : goal.overflow_mul-result-2
-overflow_mul-result-2 c = omega (arith, (sides_in _ _ _ (omega arith) (omega arith) (sym c.type_sides.ensures ∙ c.in-Joins.is)))
+overflow_mul-result-2 c = omega (arith, sides c)
 
 pub overflow_add-result-2 : goal.overflow_add-result-2
-overflow_add-result-2 c = omega (arith, (sides_in _ _ _ (omega arith) (omega arith) (sym c.type_sides.ensures ∙ c.in-Joins.is)))
+overflow_add-result-2 c = omega (arith, sides c)
 
 pub returns : goal.returns
-returns c = net_ends _ _ _ _ c.requires.0 c.requires.1 c.requires.2 (sym c.type_sides.ensures ∙ c.in-Joins.is)
+returns c = net_ends c.args.kind _ _ _ c.requires.0 c.requires.1 c.requires.2 (sym c.type_sides.ensures ∙ c.unwrap-earlier.ensures)

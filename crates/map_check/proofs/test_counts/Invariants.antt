@@ -1,5 +1,5 @@
 -- The loop's invariant: the types before this one have as many closed relays as nets.
-use Prim.Native.Nat.{ℕ, ◌-◌, ◌≤◌, ◌<◌}
+use Prim.Native.Nat.{ℕ, ◌≤◌, ◌<◌}
 use mathlib.Core.Path.{◌≡◌}
 use Rattle.wiring.specs.Wiring.{nets, closed_of}
 use Rattle.wiring.specs.Frame.{frame}
@@ -8,7 +8,4 @@ use Rattle.frame.specs.Leaves.{count_list}
 use Rattle.map_check.proofs.test_counts.Given as goal
 
 abbrev pub invariant-loop-kind : goal.invariant-loop-kind
-invariant-loop-kind l = (1 ≤ l.kind) × (l.kind ≤ 7) × ((c : ℕ) → c < l.kind → 1 ≤ c → closed_of (frame l.size) (closed_in l.map) c ≡ nets (count_list l.counts) c)
-
-abbrev pub decreases-loop-kind : goal.decreases-loop-kind
-decreases-loop-kind l = 7 - l.kind
+invariant-loop-kind l = (c : ℕ) → c < l.kind → 1 ≤ c → closed_of (frame l.job.size) (closed_in l.map) c ≡ nets (count_list l.job.counts) c

@@ -1,6 +1,5 @@
-use Rattle.std.proofs.Common.{arith}
 use Rattle.puts.proofs.Puts.{put_more}
 use Rattle.puts.proofs.put_bytes.Goals as goal
 
 pub loop-i-preserved : goal.loop-i-preserved
-loop-i-preserved c = (omega arith, put_more _ _ _ c.loop-i.i c.loop-i-test.true c.loop-i.invariant.1)
+loop-i-preserved c = put_more _ _ _ c.loop-i.i c.loop-i-test.true c.loop-i.invariant

@@ -1,9 +1,7 @@
 -- What `read_job` ensures, told in C's way.
-use mathlib.Core.Path.{ap}
-use Rattle.jobs.specs.declared.JobRead.{JobRead}
 use Rattle.jobs.proofs.RoundTrip.{job-number}
 use Rattle.frame_c.proofs.NumbersFit.{word_fits}
 use Rattle.frame_c.proofs.records.frame_read_job.Goals as goal
 
 pub tell-requires : goal.tell-requires
-tell-requires c = word_fits _ _ (ap (λ (r : JobRead). r.answer) c.read_job-read.ensures) (job-number c.args.bytes.now (λ i. (c.shared_slice_known-1.given i).fits))
+tell-requires c = word_fits _ _ c.read_job-read.ensures (job-number c.args.bytes.now (λ i. (c.type_inv.bytes i).fits))

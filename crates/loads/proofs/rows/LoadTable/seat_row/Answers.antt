@@ -1,0 +1,8 @@
+use Rattle.loads.proofs.Seats.{row_known}
+use Rattle.loads.proofs.rows.LoadTable.seat_row.Goals as goal
+
+pub seat-seating-requires : goal.seat-seating-requires
+seat-seating-requires c = let r = row_known _ c.requires in rw (c.as_slice.ensures.value, c.nets_of-types.ensures) (r.four, r.types)
+
+pub invariant_of-result-clause-typed : goal.invariant_of-result-clause-typed
+invariant_of-result-clause-typed c = rw c.nets_of-types.ensures (row_known _ c.requires).types

@@ -1,7 +1,0 @@
-use lib.Bits.{and_mask}
-use Rattle.marks.specs.Marks.{is_marked}
-use Rattle.marks.proofs.is_marked.Goals as goal
-
-pub returns : goal.returns
-unfolding is_marked
-returns c = rw (and_mask _ 1)
