@@ -1,5 +1,6 @@
 // Nets added and dropped one by one, while the others stay closed (requests, item 4). The map is lent to each call, and each call makes
-// the start's tests first, so that nothing has to be remembered between calls and no map is changed that was not tested.
+// the start's tests first, so that nothing has to be remembered between calls and no map is changed that was not tested. Size and map
+// come apart, as the C interface hands them in.
 #![tactic(auto)]
 
 ghost use Rattle.std.specs.Prelude.{◌≡◌, ◌≤◌, MatchOption};

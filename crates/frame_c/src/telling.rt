@@ -16,7 +16,7 @@ pub fn tell<T: Copy>(answer: Result<T, Refusal>, number: &mut u32) -> u32
     answers::code(answer)
 }
 
-// Six counts, n1 to n6.
+// Six counts, n1 to n6, as the array that C has.
 pub fn counts_told(n: Counts) -> [u16; 6]
     ensures { result ≡ count_list n }
 {

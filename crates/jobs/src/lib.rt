@@ -57,7 +57,7 @@ pub fn read_job(s: &[u8]) -> Result<Job, Refusal>
     Ok(job)
 }
 
-// What a caller in C is told: the job that was read, and all 0 beside a refusal.
+// What a caller in C is told: the job that was read, and all 0 beside a refusal. The zeros are those of a job alone.
 pub fn job_told(read: Result<Job, Refusal>) -> Job
     ensures { result ≡ job_told read }
 {

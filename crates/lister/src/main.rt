@@ -25,7 +25,8 @@ fn read_input(input: &mut impl Read, room: &mut [u8]) -> io::Result<usize>
 // A room that is long enough for every text.
 const ROOM: usize = 4096;
 
-// One byte more than a job record has is enough to tell. Both rooms are arrays: the program takes no heap.
+// One byte more than a job record has is enough to tell. Both rooms are arrays that are filled from the front, by a
+// read and by the listing: the program takes no heap.
 fn main(rt: HostRuntime) {
     let mut input = [0u8; 20];
     let Ok(n) = read_input(&mut rt.stdin(), &mut input) else {

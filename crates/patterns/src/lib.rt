@@ -47,7 +47,7 @@ pub fn read_pattern(s: &[u8]) -> Result<Pattern, Refusal>
     map_at(s, job, start)
 }
 
-// What a caller in C is told: the pattern that was read, and all 0 beside a refusal.
+// What a caller in C is told: the pattern that was read, and all 0 beside a refusal. The zeros are those of a pattern alone.
 pub fn pattern_told(read: Result<Pattern, Refusal>) -> Pattern
     ensures { result ≡ pattern_told read }
 {

@@ -34,7 +34,8 @@ struct Cell {
     ghost in_the_frame: { (1 ≤ p) × (p ≤ size.w) },
 }
 
-// The type of a net is a number from 1 to 6 here too: `frame::type_sides` and the table of loads go by it.
+// The type of a net is a number from 1 to 6 here too: `frame::type_sides` and the table of loads go by it. Low and high are the digits 0
+// and 1 of the seating's number. How many nets a side the counts may have is another number each time that it is asked.
 impl Cell {
     // Closes the relay of a net of a type that is seated low (0) or high (1) in this block.
     fn close_net(self, room: &mut [u8], kind: u8, high: u64)
@@ -87,7 +88,8 @@ impl Cell {
     }
 }
 
-// Closes the relays of all cells but `skip`, from the outside in; together they hold this many nets a side.
+// Closes the relays of all cells but `skip`, from the outside in; together they hold this many nets a side. 0 leaves none out: it is the
+// number of no cell, as `without` of the rule has it.
 pub fn close_cells(room: &mut [u8], size: Size, skip: usize, held: usize, counts: Counts)
     requires { (held ≡ capacity size.w (without skip (cells size.w))) × (within held counts ≡ true) }
     ensures { room.new ≡ close_all room.old (serve size.w (without skip (cells size.w)) counts) }
@@ -131,6 +133,7 @@ fn write_map(job: Job, room: &mut [u8]) -> Answer
 {
     frame::test_size(job.size)?;
     let bytes = frame::map_length(job.size);
+    // the room's length is tested where what it has to hold is known, here as in each writer
     if room.len() < bytes {
         return Err(Refusal::Room(bytes));
     }

@@ -46,7 +46,8 @@ fn gave(routed: Routed, told: Told) -> bool {
     is(routed.answer, told.code, told.number) && routed.sums == told.sums
 }
 
-// The byte that must stand in the room at a place: the map's, and past the map what the room was filled with.
+// The byte that must stand in the room at a place: the map's, and past the map what the room was filled with. The records' `byte_at` has 0
+// there, and this program stands on no record's crate.
 fn should_be(map: &[u8], at: usize) -> u8
     ensures { result ≡ slice_index_or map.now at 0xA5 }
 {

@@ -31,7 +31,7 @@ pub fn wiring_of(size: u16, relay: u16) -> Result<Wired, Refusal>
     })
 }
 
-// What a caller is told who takes no `Result`: all are 0 beside a refusal.
+// What a caller is told who takes no `Result`: all are 0 beside a refusal. The zeros are those of this type alone.
 pub fn wired_told(read: Result<Wired, Refusal>) -> Wired
     ensures { result ≡ wired_told read }
 {
