@@ -40,12 +40,12 @@ pub struct Told {
 }
 
 // Done, which has no sums.
-pub fn done() -> Told {
+pub(crate) fn done() -> Told {
     refusal(0, 0)
 }
 
 // Any refusal but code 3 has no sums either.
-pub fn refusal(code: u32, number: u64) -> Told {
+pub(crate) fn refusal(code: u32, number: u64) -> Told {
     Told {
         code,
         number,
@@ -54,7 +54,7 @@ pub fn refusal(code: u32, number: u64) -> Told {
 }
 
 // Code 3: these sides are overfull, and these are the four sums, L, T, R, B.
-pub fn overfull_sides(sides: u64, sums: [u32; 4]) -> Told {
+pub(crate) fn overfull_sides(sides: u64, sums: [u32; 4]) -> Told {
     let [left, top, right, bottom] = sums;
     Told {
         code: 3,
