@@ -34,7 +34,7 @@ use Rattle.listing.specs.Listing.{text_of}
 use Rattle.listing.proofs.Texts.{list_codes, list_told, list_refused}
 use Rattle.listing.proofs.Ends.{nets-listed}
 use Rattle.demands.specs.Demands.{Pattern as JobPattern, Demand1, Demand2, Demand3}
-use Rattle.demands.proofs.Parts.{no_map, part_bytes, refuses}
+use Rattle.demands.proofs.Parts.{no_map, part_bytes, refuses, tells_same}
 
 pub demand_1 : Demand1
 unfolding route_room job_room pattern_room
@@ -42,6 +42,8 @@ demand_1 = record {
   code_0 = code-done;
   done_0 = (refl, refl);
   not_retired = not_retired;
+  read_job_same = λ s. tells_same _;
+  read_pattern_same = λ s. tells_same _;
   route_codes = route_codes;
   check_codes = check_codes;
   read_job_codes = job-codes;

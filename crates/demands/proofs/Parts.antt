@@ -13,8 +13,14 @@ use Rattle.std.specs.Prelude.{Result, Ok, Err}
 use Rattle.answers.specs.declared.Refusal.{Refusal}
 use Rattle.answers.specs.Answer.{Done, answer_of}
 use Rattle.patterns.specs.declared.Pattern.{Pattern}
+use Rattle.demands.specs.Demands.{TellsAs}
 use Rattle.patterns.specs.Read.{part}
 use Rattle.patterns.specs.Part.{map_part}
+
+-- what a call gives tells nothing of its own
+pub tells_same : {A : Type 0} (a : Result A Refusal) → TellsAs a (answer_of a)
+tells_same (Ok x) = (refl, refl)
+tells_same (Err r) = (refl, refl)
 
 -- a call that is not done refuses
 pub refuses : {A : Type 0} (a : Result A Refusal) → (answer_of a ≡ Done → ⊥) → (r : Refusal) × (a ≡ Err r)

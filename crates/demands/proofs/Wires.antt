@@ -5,10 +5,12 @@ use Rattle.wiring.proofs.Frame.{joined}
 use Rattle.answers.specs.Answer.{answer_of}
 use Rattle.wires.proofs.HowWired.{wired_codes, relay_told, wired_refused, wired_there, wired_served, wired_joins}
 use Rattle.demands.specs.Wires.{Wires}
+use Rattle.demands.proofs.Parts.{tells_same}
 
 pub wires : Wires
 wires = record {
   codes = wired_codes;
+  same = λ W k. tells_same _;
   told = relay_told;
   refused = wired_refused;
   done = λ W k s h. ap answer_of (wired_there W k s h);

@@ -1,10 +1,11 @@
 -- What is promised: the three demands over the definitions that the contracts cite. Each is proved in proofs/Demands.antt.
 -- That every input is taken, and that every call ends without a fault, is proved of each function itself: no function that others
 -- call has a `requires`. (A few leaves that only our own crates call have one; docs/DECISIONS.md lists them.) Assumes nothing.
-use Rattle.std.specs.Prelude.{ℕ, ◌+◌, ◌≤◌, ◌<◌, ◌≡◌, Bool, false, ◌&&◌, List, [], ◌∷◌, ◌++◌, eqb, length, take, drop, replicate, Ok}
+use Rattle.std.specs.Prelude.{ℕ, ◌+◌, ◌≤◌, ◌<◌, ◌≡◌, Bool, false, ◌&&◌, List, [], ◌∷◌, ◌++◌, eqb, length, take, drop, replicate, Result, Ok}
 use Rattle.std.specs.Result.{result_unwrap_or}
 use Rattle.counting.specs.Count.{count}
 use Rattle.counting.specs.Lists.{among, Bytes}
+use Rattle.answers.specs.declared.Refusal.{Refusal}
 use Rattle.answers.specs.Answer.{Answer, Done, answer_of}
 use Rattle.answers.specs.Table.{code_of, number_of, retired_codes, CodeIn}
 use Rattle.answers.specs.Lent.{over}
@@ -39,6 +40,10 @@ use Rattle.listing.specs.Listing.{text_of, most_text, listed, listed_room}
 abbrev pub Pattern : Job → List ℕ → Type 0
 Pattern j map = Served j.size × IsMap (frame j.size).relays map × MapCarries (frame j.size) (count_list j.counts) map
 
+-- the same code and the same number
+abbrev pub TellsAs : {A B : Type 0} → Result A Refusal → Result B Refusal → Type 0
+TellsAs a b = (code_of a ≡ code_of b) × (number_of a ≡ number_of b)
+
 -- Demand 1. A refusal gives its number from the table, and the lent room stays as it came. There is no default pattern.
 pub record Demand1 : Type 0 where
   -- a program in C sees the code: it is 0 exactly if the answer is done
@@ -46,6 +51,9 @@ pub record Demand1 : Type 0 where
   pub done_0 : (code_of Done ≡ 0) × (number_of Done ≡ 0)
   -- and a code that is retired is no answer's
   pub not_retired : (a : Answer) → among (code_of a) retired_codes ≡ false
+  -- with a job or a pattern in it an answer tells the same as without
+  pub read_job_same : (s : List ℕ) → TellsAs (read_job s) (answer_of (read_job s))
+  pub read_pattern_same : (s : List ℕ) → TellsAs (read_pattern s) (answer_of (read_pattern s))
   -- the codes that each call can give
   pub route_codes : (W : ℕ) (n : Counts) (room : List ℕ) → CodeIn (0 ∷ 1 ∷ 2 ∷ 3 ∷ []) (route_answer W n room)
   pub check_codes : (W : ℕ) (n m : List ℕ) → CodeIn (0 ∷ 1 ∷ 2 ∷ 11 ∷ 12 ∷ 13 ∷ []) (check_map W n m)
@@ -79,7 +87,8 @@ pub record Demand1 : Type 0 where
   pub router_refuses : (W : ℕ) (n : Counts) (room : List ℕ) → (route_answer W n room ≡ Done → ⊥) → route_room W n room ≡ room
   pub job_writer_refuses : (j : Job) (room : List ℕ) → (job_answer j room ≡ Done → ⊥) → job_room j room ≡ room
   pub pattern_writer_refuses : (j : Job) (map room : List ℕ) → (pattern_answer j map room ≡ Done → ⊥) → pattern_room j map room ≡ room
-  pub lister_refuses : (s room : List ℕ) → (answer_of (listed s room) ≡ Done → ⊥) → (listed_room s room ≡ room) × (result_unwrap_or (listed s room) 0 ≡ 0)
+  pub lister_refuses : (s room : List ℕ) → (answer_of (listed s room) ≡ Done → ⊥)
+      → (listed_room s room ≡ room) × (result_unwrap_or (listed s room) 0 ≡ 0)
   pub job_reader_refuses : (s : List ℕ) → (answer_of (read_job s) ≡ Done → ⊥) → job_told (read_job s) ≡ empty_job
   pub pattern_reader_refuses : (s : List ℕ) → (answer_of (read_pattern s) ≡ Done → ⊥)
       → ((pattern_told (read_pattern s)).job ≡ empty_job) × (map_part s (pattern_told (read_pattern s)) ≡ [])

@@ -8,10 +8,12 @@ use Rattle.wiring.specs.Frame.{four, relay, frame}
 use Rattle.frame.specs.Tests.{Served}
 use Rattle.wires.specs.Told.{RelayTold, WiredRight}
 use Rattle.wires.specs.Wired.{not_wired, wired_told, wired_as}
+use Rattle.demands.specs.Demands.{TellsAs}
 
 pub record Wires : Type 0 where
   -- the codes, and what their numbers tell; a refusal names no type and no terminal
   pub codes : (W k : ℕ) → CodeIn (0 ∷ 1 ∷ 20 ∷ []) (wired_as W k)
+  pub same : (W k : ℕ) → TellsAs (wired_as W k) (answer_of (wired_as W k))
   pub told : (W k : ℕ) → RelayTold W k (answer_of (wired_as W k))
   pub refused : (W k : ℕ) → (answer_of (wired_as W k) ≡ Done → ⊥) → wired_told (wired_as W k) ≡ not_wired
   -- each relay of a size that is served is told, and no other; it joins position p of its type's earlier side to W + 1 - p of the later side

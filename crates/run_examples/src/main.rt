@@ -9,7 +9,7 @@ ghost use Rattle.run_examples.specs.Compare.{given, stands};
 mod shown;
 
 use answers::Refusal;
-use frame::{Counts, Job};
+use frame::Job;
 use overfull::Sums;
 use router::Routed;
 use shown::{Asked, Bytes, Told};
@@ -21,17 +21,8 @@ const FILL: u8 = 0xA5;
 // A job of this size with these counts, n1 to n6.
 fn job(size: u16, counts: [u16; 6]) -> Job {
     let [n1, n2, n3, n4, n5, n6] = counts;
-    Job {
-        size,
-        counts: Counts {
-            n1,
-            n2,
-            n3,
-            n4,
-            n5,
-            n6,
-        },
-    }
+    let counts = frame::six(n1, n2, n3, n4, n5, n6);
+    Job { size, counts }
 }
 
 // Has the answer this code and this number? The scope's table has numbers, so an example that named the refusal would not try the table.
