@@ -6,12 +6,12 @@ use native.Mathlib.Omega.{arith}
 use lib.Dec.{ltb}
 use denote.Enum.Declared.{Choice}
 use borrow.Author.Tests.{ltb-true}
-use Rattle.std.specs.Prelude.{Ok, Err, is_err}
+use Rattle.std.specs.Prelude.{Result, Ok, Err, is_err}
 use Rattle.answers.specs.contracts.Refusal.{the_parts as parts, as_values, the_make as make, the_eta as eta}
 use Rattle.answers.proofs.Rows.{tests, passes, each_row}
 use Rattle.answers.specs.declared.Refusal.{Refusal}
-use Rattle.answers.specs.Answer.{Answer, Done}
-use Rattle.answers.specs.Table.{refusal_code, code_of}
+use Rattle.answers.specs.Answer.{Answer, Done, answer_of}
+use Rattle.answers.specs.Table.{refusal_code, code_of, number_of}
 use Rattle.answers.specs.Lent.{is_done, and_then}
 
 -- a refusal's code is not 0
@@ -68,6 +68,14 @@ by_second x a b r e d f = rw (← e, d) f
 pub and_then_lem : (P : Answer → Type 0) (a b : Answer) → P a → (a ≡ Done → P b) → P (and_then a b)
 and_then_lem P (Ok x) b p q = q refl
 and_then_lem P (Err r) b p q = p
+
+-- what a call gives beside being done tells nothing of its own: code and number are those of its answer, and with code 0 that is done
+pub same_told : {A : Type 0} (a : Result A Refusal) → (code_of a ≡ code_of (answer_of a)) × (number_of a ≡ number_of (answer_of a))
+same_told (Ok x) = (refl, refl)
+same_told (Err r) = (refl, refl)
+
+pub given_done : {A : Type 0} (a : Result A Refusal) → code_of a ≡ 0 → answer_of a ≡ Done
+given_done a e = code-done (answer_of a) (sym (same_told a).0 ∙ e)
 
 -- a test that refuses where b passes, and one that refuses where it fails
 module _ (b : Bool) (r : Refusal) where

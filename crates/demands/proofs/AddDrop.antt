@@ -26,6 +26,7 @@ use Rattle.changes.proofs.Kept.{calls_closable, calls_closed}
 use Rattle.changes.proofs.Promises.{named_lowest, add_own, add_opens_none, add_no_type, taken_nineteen, not_taken_done, nineteen_taken, dropped_own, dropped_free, dropped_serves, dropped_carries, added_carries}
 use Rattle.demands.specs.Demands.{Pattern}
 use Rattle.demands.specs.AddDrop.{Start, AddDrop}
+use Rattle.demands.proofs.Parts.{tells_same}
 use Rattle.demands.proofs.Demands.{routed_pattern}
 
 -- a start is a map that may be closed, and the other way
@@ -56,6 +57,7 @@ add_drop = record {
   pattern_starts = λ j m p. starts j.size m (pattern_closable j m p);
   start_refused = λ W m call f. start_first W m call (not_done (start_test W m) f);
   added = added_answer_lem;
+  added_same = λ W m c. rw (← added_answer_lem W m c) (tells_same _);
   open_codes = λ W room. asked_codes W (map_bytes W) room;
   start_codes = start_codes;
   add_codes = add_codes;

@@ -44,6 +44,7 @@ demand_1 = record {
   not_retired = not_retired;
   read_job_same = λ s. tells_same _;
   read_pattern_same = λ s. tells_same _;
+  list_same = λ s room. tells_same _;
   route_codes = route_codes;
   check_codes = check_codes;
   read_job_codes = job-codes;

@@ -12,6 +12,7 @@ use Rattle.counting.specs.Lists.{Bytes}
 use Rattle.std.specs.Prelude.{Result, Ok, Err}
 use Rattle.answers.specs.declared.Refusal.{Refusal}
 use Rattle.answers.specs.Answer.{Done, answer_of}
+use Rattle.answers.proofs.Done.{same_told}
 use Rattle.patterns.specs.declared.Pattern.{Pattern}
 use Rattle.demands.specs.Demands.{TellsAs}
 use Rattle.patterns.specs.Read.{part}
@@ -19,8 +20,7 @@ use Rattle.patterns.specs.Part.{map_part}
 
 -- what a call gives tells nothing of its own
 pub tells_same : {A : Type 0} (a : Result A Refusal) → TellsAs a (answer_of a)
-tells_same (Ok x) = (refl, refl)
-tells_same (Err r) = (refl, refl)
+tells_same = same_told
 
 -- a call that is not done refuses
 pub refuses : {A : Type 0} (a : Result A Refusal) → (answer_of a ≡ Done → ⊥) → (r : Refusal) × (a ≡ Err r)

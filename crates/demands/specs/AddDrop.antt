@@ -20,7 +20,7 @@ use Rattle.router.specs.Router.{route_answer}
 use Rattle.frame.specs.declared.Job.{Job}
 use Rattle.changes.specs.Start.{open_answer, open_map, open_room, start_test}
 use Rattle.changes.specs.Technician.{call_answer, call_map, calls_map, add_net}
-use Rattle.demands.specs.Demands.{Pattern}
+use Rattle.demands.specs.Demands.{Pattern, TellsAs}
 
 -- a map from which one may start
 abbrev pub Start : ℕ → List ℕ → Type 0
@@ -35,9 +35,10 @@ pub record AddDrop : Type 0 where
   pub open_starts : (W : ℕ) (room : List ℕ) → open_answer W room ≡ Done → Start W (open_map W) × (open_room W room ≡ over (open_map W) room)
   pub routed_starts : (W : ℕ) (n : Counts) (room : List ℕ) → route_answer W n room ≡ Done → Start W (map_for W n)
   pub pattern_starts : (j : Job) (m : List ℕ) → Pattern j m → Start j.size m
-  -- each call makes the start's tests first, and what adding gives has the call's answer
+  -- each call makes the start's tests first, and what adding gives has the call's answer, and tells its code and number
   pub start_refused : (W : ℕ) (m : List ℕ) (call : Call) → (start_test W m ≡ Done → ⊥) → call_answer W m call ≡ start_test W m
   pub added : (W : ℕ) (m : List ℕ) (c : ℕ) → answer_of (add_net W m c) ≡ call_answer W m (adding c)
+  pub added_same : (W : ℕ) (m : List ℕ) (c : ℕ) → TellsAs (add_net W m c) (call_answer W m (adding c))
   -- the codes that each call can give, and the numbers of the first four; 18, 19 and 20 stand below
   pub open_codes : (W : ℕ) (room : List ℕ) → CodeIn (0 ∷ 1 ∷ 2 ∷ []) (open_answer W room)
   pub start_codes : (W : ℕ) (m : List ℕ) → CodeIn (0 ∷ 1 ∷ 2 ∷ 11 ∷ 12 ∷ []) (start_test W m)

@@ -51,9 +51,10 @@ pub record Demand1 : Type 0 where
   pub done_0 : (code_of Done ≡ 0) × (number_of Done ≡ 0)
   -- and a code that is retired is no answer's
   pub not_retired : (a : Answer) → among (code_of a) retired_codes ≡ false
-  -- with a job or a pattern in it an answer tells the same as without
+  -- with a job, a pattern or a text's length in it an answer tells the same as without
   pub read_job_same : (s : List ℕ) → TellsAs (read_job s) (answer_of (read_job s))
   pub read_pattern_same : (s : List ℕ) → TellsAs (read_pattern s) (answer_of (read_pattern s))
+  pub list_same : (s room : List ℕ) → TellsAs (listed s room) (answer_of (listed s room))
   -- the codes that each call can give
   pub route_codes : (W : ℕ) (n : Counts) (room : List ℕ) → CodeIn (0 ∷ 1 ∷ 2 ∷ 3 ∷ []) (route_answer W n room)
   pub check_codes : (W : ℕ) (n m : List ℕ) → CodeIn (0 ∷ 1 ∷ 2 ∷ 11 ∷ 12 ∷ 13 ∷ []) (check_map W n m)

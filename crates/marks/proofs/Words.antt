@@ -69,28 +69,28 @@ pub ends_there : (W k : ℕ) → k < 6 * W → IsSome (terminals_of W k)
 unfolding terminals_of
 ends_there W k h = rw (lt-ltb k (6 * W) h)
 
--- and what the code makes of them, in the wiring's terms
-module _ (W k : ℕ) (ends : Terminal × Terminal) (found : terminals_of W k ≡ Some ends) where
-  its : EndsOf (frame W) k ends.0 ends.1
-  its = ends_are W k ends.0 ends.1 found
+pub ends_found : (W k : ℕ) (ends : Terminal × Terminal) → terminals_of W k ≡ Some ends → EndsOf (frame W) k ends.0 ends.1
+ends_found W k ends found = ends_are W k ends.0 ends.1 found
 
-  pub ends_markable : W ≤ 64 → k < 6 * W → Markable ends.0 × Markable ends.1
-  ends_markable s h = let x = frame_worded W s in (rw its.from (x.from k h), rw its.to (x.to k h))
+-- and what the code makes of them, in the wiring's terms
+module _ (w : Wiring) (k : ℕ) (a b : Terminal) (x : EndsOf w k a b) where
+  pub ends_markable : Worded w → k < w.relays → Markable a × Markable b
+  ends_markable y h = (rw x.from (y.from k h), rw x.to (y.to k h))
 
   module _ (marks : List ℕ) where
-    either_marked : relay_marked (frame W) marks k ≡ (is_marked marks ends.0.side ends.0.position || is_marked marks ends.1.side ends.1.position)
+    either_marked : relay_marked w marks k ≡ (is_marked marks a.side a.position || is_marked marks b.side b.position)
     unfolding relay_marked
-    either_marked = rw (its.from, its.to)
+    either_marked = rw (x.from, x.to)
 
-    pub first_marked : {a : Bool} → a ≡ is_marked marks ends.0.side ends.0.position → a ≡ true → a ≡ relay_marked (frame W) marks k
+    pub first_marked : {r : Bool} → r ≡ is_marked marks a.side a.position → r ≡ true → r ≡ relay_marked w marks k
     first_marked e t = rw (either_marked, ← e, t)
 
-    pub second_marked : {a b : Bool} → a ≡ is_marked marks ends.0.side ends.0.position → a ≡ false → b ≡ is_marked marks ends.1.side ends.1.position → b ≡ relay_marked (frame W) marks k
+    pub second_marked : {l r : Bool} → l ≡ is_marked marks a.side a.position → l ≡ false → r ≡ is_marked marks b.side b.position → r ≡ relay_marked w marks k
     second_marked e t f = rw (either_marked, ← e, t) f
 
-    pub both_marked : {mid out : List ℕ} → mid ≡ with_mark marks ends.1.side ends.1.position → out ≡ with_mark mid ends.0.side ends.0.position → out ≡ with_relay (frame W) marks k
+    pub both_marked : {mid out : List ℕ} → mid ≡ with_mark marks b.side b.position → out ≡ with_mark mid a.side a.position → out ≡ with_relay w marks k
     unfolding with_relay
-    both_marked e f = f ∙ rw (e, its.from, its.to)
+    both_marked e f = f ∙ rw (e, x.from, x.to)
 
 -- one relay more, for a loop over them
 module _ (w : Wiring) (closed : ℕ → Bool) (k : ℕ) (marks : List ℕ) (e : marks ≡ marks_of w closed k) where

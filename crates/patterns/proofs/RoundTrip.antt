@@ -47,7 +47,7 @@ pub pattern_length : (j : Job) (map : List ℕ) → length map ≡ map_bytes j.s
 pattern_length j map e = omega arith
 
 -- the part that a read tells
-part_inside : (s : List ℕ) (p : Pattern) → p.start + p.len ≤ length s → map_part s p ≡ part s p.start p.len
+pub part_inside : (s : List ℕ) (p : Pattern) → p.start + p.len ≤ length s → map_part s p ≡ part s p.start p.len
 unfolding map_part
 part_inside s p h = simp (le-leb (p.start + p.len) (length s) h)
 

@@ -51,14 +51,12 @@ pub fn read_pattern(s: &[u8]) -> Result<Pattern, Refusal>
 pub fn pattern_told(read: Result<Pattern, Refusal>) -> Pattern
     ensures { result ≡ pattern_told read }
 {
-    match read {
-        Ok(pattern) => pattern,
-        Err(refusal) => Pattern {
-            job: jobs::job_told(Err(refusal)),
-            start: 0,
-            len: 0,
-        },
-    }
+    let counts = frame::six(0, 0, 0, 0, 0, 0);
+    read.unwrap_or(Pattern {
+        job: Job { size: 0, counts },
+        start: 0,
+        len: 0,
+    })
 }
 
 // The map that a read tells by its place, as a part of the record; no bytes where that does not lie inside it.

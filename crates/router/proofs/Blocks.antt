@@ -1,21 +1,15 @@
 -- Closing the nets of a block one after the other, as laws over plain values. Assumes nothing.
 use Prim.Native.Nat.{ℕ, suc, ◌+◌, ◌-◌, ◌/◌, ◌%◌, ◌^◌, ◌≤◌, ◌<◌}
 use mathlib.Core.Path.{◌≡◌, sym, ap, ◌∙◌}
-use mathlib.Core.Bool.{true}
-use mathlib.Core.List.{List, ◌∷◌, map}
+use mathlib.Core.List.{List, [], ◌∷◌, map}
 use native.Mathlib.Omega.{arith}
 use native.Mathlib.Numerals.{add-one}
-use lib.ListN.{length, get_or, drop, replicate, length-drop}
-use lib.Seq.{drop-cons, drop-length}
-use Rattle.wiring.specs.Wiring.{nets}
+use lib.ListN.{length, get_or, drop, replicate, length-drop, drop_of_length-le}
+use lib.Seq.{drop-cons}
 use Rattle.wiring.specs.Frame.{relay}
 use Rattle.wiring.specs.Map.{with_closed, close_all}
 use Rattle.wiring.proofs.Relays.{type_relay, place_relay}
-use Rattle.frame.specs.declared.Counts.{Counts}
-use Rattle.frame.specs.Leaves.{count_list}
-use Rattle.loads.specs.Load.{within}
 use Rattle.loads.specs.Seat.{seats}
-use Rattle.loads.proofs.Counts.{within_of, nets_most}
 use Rattle.cells.specs.Serve.{low_high, spread}
 
 -- a relay is closed if there is a net for it
@@ -23,10 +17,9 @@ pub closed_one : (k nets : ℕ) (room room' : List ℕ) → nets ≡ 1 → room'
 unfolding close_all
 closed_one k nets room room' e h = rw e h
 
-pub closed_none : (n : Counts) (c k : ℕ) (room : List ℕ) → within 1 n ≡ true → 1 ≤ c → c ≤ 6 → (nets (count_list n) c ≡ 1 → ⊥)
-    → room ≡ close_all room (replicate (nets (count_list n) c) k)
+pub closed_none : (k nets : ℕ) (room : List ℕ) → nets ≤ 1 → (nets ≡ 1 → ⊥) → room ≡ close_all room (replicate nets k)
 unfolding close_all
-closed_none n c k room w a b z = let e : nets (count_list n) c ≡ 0 = omega (arith, nets_most 1 n c (within_of 1 n w) a b) in rw e
+closed_none k nets room l z = let e : nets ≡ 0 = omega arith in rw e
 
 -- a relay of the block, by type and seat, in the frame
 spread_seat : (W p c high : ℕ) → 1 ≤ c → high < 2 → spread W p (relay 2 c (high + 1)) ≡ relay W c (low_high W p (high + 1))
@@ -58,7 +51,7 @@ module _ (W p s : ℕ) (cs : List ℕ) where
   unfolding close_all
   left_next j room room' target l t e g = rw e (sym (ap (close_all room) (next_relay j l t)) ∙ g)
 
-  pub left_none : (j : ℕ) (room room₀ : List ℕ) → j ≡ length cs → close_all room (to_close W p cs s j) ≡ close_all room₀ (to_close W p cs s 0)
+  pub left_none : (j : ℕ) (room room₀ : List ℕ) → length cs ≤ j → close_all room (to_close W p cs s j) ≡ close_all room₀ (to_close W p cs s 0)
       → room ≡ close_all room₀ (map (spread W p) (seats cs s))
   unfolding close_all to_close seats
-  left_none j room room₀ e g = rw (e, drop-length cs) at g
+  left_none j room room₀ e g = let z : drop j cs ≡ [] = drop_of_length-le cs {i = j} e in rw z at g

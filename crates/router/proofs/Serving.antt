@@ -16,6 +16,7 @@ use Rattle.loads.specs.Table.{row}
 use Rattle.loads.specs.Load.{at_most, less, fits, pick, load}
 use Rattle.loads.specs.Seat.{net_list, seats, seating}
 use Rattle.loads.specs.declared.Seated.{Seated}
+use Rattle.loads.specs.Seated.{net_types}
 use Rattle.loads.proofs.Counts.{SumsWithin, part_test}
 use Rattle.loads.proofs.Choice.{Loaded, loaded, later_none}
 use Rattle.cells.specs.Cells.{capacity, run, cells, without}
@@ -196,7 +197,7 @@ module _ {W skip r p : ℕ} {n : Counts} {x : Seated} {room target : List ℕ} (
       turn_most {l} e = part_test l n (rw (e, chosen) turn_loaded.part)
 
       pub turn_next : {x' : Seated} {l n' : Counts} {room' : List ℕ} → x'.q ≡ next → l ≡ row next → n' ≡ less n l
-          → room' ≡ close_all room (map (spread W p) (seats x'.types.items x'.seating)) → Turn W skip (r - 2) (p + 1) n' x' room' target
+          → room' ≡ close_all room (map (spread W p) (seats (net_types x') x'.seating)) → Turn W skip (r - 2) (p + 1) n' x' room' target
       unfolding seating load
       turn_next {x'} {l} {n'} {room'} s e f g = record {
         low = omega arith;
@@ -226,8 +227,8 @@ module _ {W skip r p : ℕ} {n : Counts} {x : Seated} {room target : List ℕ} (
   unfolding from
   last = last_run W skip (suc ((W + 1) / 2) - p) p n (omega (arith, t.upto)) t.low
 
-  pub one_left : r ≡ 1 → SumsWithin 1 n
-  one_left e = omega (arith, t.within)
+  pub one_left : r ≡ 1 → SumsWithin 1 n × (W / 2 + 1 ≤ W)
+  one_left e = (omega (arith, t.within), omega (arith, there W skip p (omega (arith, t.held)), t.low))
 
   pub end_centre : r ≡ 1 → {room' : List ℕ} → room' ≡ close_all room (centre W (W / 2 + 1) n) → room' ≡ target
   end_centre h e = e ∙ (rw (last.1 (sym t.held ∙ h)) at t.todo)

@@ -8,6 +8,7 @@ ghost use Rattle.wiring.specs.Map.{with_closed, close_all};
 ghost use Rattle.frame.specs.Leaves.{count_list};
 ghost use Rattle.loads.specs.Load.{within};
 ghost use Rattle.loads.specs.Seat.{seats};
+ghost use Rattle.loads.specs.Seated.{net_types};
 ghost use Rattle.cells.specs.Cells.{capacity, cells, without};
 ghost use Rattle.cells.specs.Serve.{low_high, spread, centre, serve};
 ghost use Rattle.router.specs.Route.{relays_for};
@@ -53,9 +54,9 @@ impl Cell {
 
     // Closes the relays of this block.
     fn close_block(self, room: &mut [u8], seated: &Seated)
-        ensures { room.new ≡ close_all room.old (map (spread self.size.w self.p) (seats seated.now.types.items seated.now.seating)) }
+        ensures { room.new ≡ close_all room.old (map (spread self.size.w self.p) (seats (net_types seated.now) seated.now.seating)) }
     {
-        let types = seated.types.as_slice();
+        let types = &seated.types[..seated.nets];
         for (j, kind) in types.iter().enumerate() {
             let high = (seated.seating >> (types.len() - 1 - j)) % 2;
             self.close_net(room, *kind, high);
@@ -97,13 +98,14 @@ pub fn close_cells(room: &mut [u8], size: Size, skip: usize, held: usize, counts
     let table = LoadTable::new();
     let mut n = counts;
     let mut r = held;
+    let mut q = 0;
     let mut seated = table.seat_row(0);
     for p in 1..size.w / 2 + 1 {
         if p == skip {
             continue;
         }
         r -= 2;
-        let q = table.next_row(n, r as u16, seated.q);
+        q = table.next_row(n, r as u16, q);
         table.seat_next(q, &mut seated);
         Cell { size, p }.close_block(room, &seated);
         n = loads::less(n, table.row_at(q));

@@ -1,14 +1,14 @@
 -- A type from 1 to 6 has its sides.
-use Rattle.std.proofs.Common.{◌≤◌, sym, ◌∙◌, arith}
+use Rattle.std.proofs.Common.{◌≤◌, sym, ◌∙◌, arith, rules}
 use Rattle.loads.proofs.Trial.{net_ends, sides_in, sides_some}
 use Rattle.loads.proofs.net_ends.Goals as goal
-use Rattle.loads.proofs.net_ends.Goals.{After-unwrap-earlier}
+use Rattle.loads.proofs.net_ends.Goals.{In-Some}
 
-sides : (c : After-unwrap-earlier) → let s = c.unwrap-earlier.result in (1 ≤ s.0) × (s.0 ≤ 4) × (1 ≤ s.1) × (s.1 ≤ 4)
-sides c = sides_in c.args.kind _ _ c.requires.0 c.requires.1 (sym c.type_sides.ensures ∙ c.unwrap-earlier.ensures)
+pub returns-in_default : goal.returns-in_default
+returns-in_default c = let some = sides_some c.args.kind c.requires.0 c.requires.1 in absurd (search rules)
 
-pub unwrap-earlier-requires : goal.unwrap-earlier-requires
-unwrap-earlier-requires c = rw c.type_sides.ensures (sides_some _ c.requires.0 c.requires.1)
+sides : (c : In-Some) → let s = c.in-Some in (1 ≤ s.earlier) × (s.earlier ≤ 4) × (1 ≤ s.later) × (s.later ≤ 4)
+sides c = sides_in c.args.kind _ _ c.requires.0 c.requires.1 (sym c.type_sides.ensures ∙ c.in-Some.is)
 
 pub overflow_sub-result : goal.overflow_sub-result
 overflow_sub-result c = (sides c).0
@@ -29,4 +29,4 @@ pub overflow_add-result-2 : goal.overflow_add-result-2
 overflow_add-result-2 c = omega (arith, sides c)
 
 pub returns : goal.returns
-returns c = net_ends c.args.kind _ _ _ c.requires.0 c.requires.1 c.requires.2 (sym c.type_sides.ensures ∙ c.unwrap-earlier.ensures)
+returns c = net_ends c.args.kind _ _ _ c.requires.0 c.requires.1 c.requires.2 (sym c.type_sides.ensures ∙ c.in-Some.is)
