@@ -98,6 +98,7 @@ pub fn close_cells(room: &mut [u8], size: Size, skip: usize, held: usize, counts
     let table = LoadTable::new();
     let mut n = counts;
     let mut r = held;
+    // the row that is seated, beside the seating that names it: read from there it is moved at each row of the scan
     let mut q = 0;
     let mut seated = table.seat_row(0);
     for p in 1..size.w / 2 + 1 {
