@@ -31,11 +31,16 @@ impl<'a> Text<'a> {
         self.at += bytes.len();
     }
 
-    // A number in decimal, with the fewest digits.
+    // A number in decimal, with the fewest digits. One digit, as most numbers of a listing have, is put without a buffer for it.
+    #[tactic(auto, using(std::proofs::lemmas::Fmt::decimal_digit))]
     pub fn put_decimal(&mut self, n: u64)
         requires { Fits self.old (decimal n) }
         ensures { Wrote self.old (decimal n) self.new }
     {
+        if n < 10 {
+            self.put_byte(b'0' + n as u8);
+            return;
+        }
         let mut digits = itoa::Buffer::new();
         self.put_bytes(digits.format(n).as_bytes());
     }
